@@ -1,5 +1,5 @@
 -- A row that a coding codes comes back as it was.
-use Prim.Native.Nat.{ℕ, _+_, _*_, _/_, _%_, _<_}
+use Prim.Native.Nat.{ℕ, _+_, _*_, _/_, _%_, _<_, _≤_}
 use mathlib.Core.Path.{_≡_, refl, sym, _∙_, ap, subst}
 use mathlib.Core.Bool.{Bool, true, false, cond, _&&_, _||_}
 use mathlib.Core.Logic.{_⊎_, inl, inr, ⊎-elim}
@@ -10,6 +10,9 @@ use Rattle.netlists.specs.declared.Node.{Node}
 use Rattle.netlists.specs.declared.Row.{Row}
 use Rattle.codings.specs.declared.coded.Coded.{Coded}
 use Rattle.codings.specs.Coders.{Coder, Lawful}
+use Rattle.codings.specs.declared.coding.Coding.{Coding}
+use Rattle.codings.specs.declared.coding.Coding.the-variants.{And, AndXor, Majority, Every}
+use Rattle.codings.specs.Codings.{coder}
 use Rattle.codings.specs.Codes.{
   isAnd,
   isXor,
@@ -25,7 +28,7 @@ use Rattle.codings.specs.Codes.{
   tripleEncode,
   tripleDecode,
   andCoder,
-  xorCoder,
+  andXorCoder,
   majorityCoder,
 }
 
@@ -103,22 +106,43 @@ triple-back r e t =
     let d = eqb-true (r .d .number) 0 (p .3) in
     same _ _ _ _ _ r (ap tripleTable (high (r .a .number) (tripleNumber (r .table))) ∙ t) a b c (sym d)
 
-pub and-row : (r : Row) → andCoder .codes r ≡ true → pairDecode (pairEncode r) ≡ r
+and-row : (r : Row) → andCoder .codes r ≡ true → pairDecode (pairEncode r) ≡ r
 and-row r e =
     let p = and-parts (pairNodes r) (isAnd (r .table)) e in
     pair-back r (p .0) (and-back (r .table) (p .1))
 
-pub xor-row : (r : Row) → xorCoder .codes r ≡ true → pairDecode (pairEncode r) ≡ r
+xor-row : (r : Row) → andXorCoder .codes r ≡ true → pairDecode (pairEncode r) ≡ r
 xor-row r e =
     let p = and-parts (pairNodes r) (isAnd (r .table) || isXor (r .table)) e in
     pair-back r (p .0) (⊎-elim (and-back (r .table)) (xor-back (r .table)) (or-cases (isAnd (r .table)) (isXor (r .table)) (p .1)))
 
-pub majority-row : (r : Row) → majorityCoder .codes r ≡ true → tripleDecode (tripleEncode r) ≡ r
+majority-row : (r : Row) → majorityCoder .codes r ≡ true → tripleDecode (tripleEncode r) ≡ r
 majority-row r e =
     let p = and-parts (tripleNodes r) (isAnd (r .table) || isMajority (r .table)) e in
     triple-back r (p .0) (⊎-elim (and-triple-back (r .table)) (majority-back (r .table)) (or-cases (isAnd (r .table)) (isMajority (r .table)) (p .1)))
 
+-- ---- the codings
+
+no-three : 3 ≤ 2 → ⊥
+no-three h = omega arith
+
+no-five : (n : ℕ) → n ≤ 4 → 5 ≤ n → ⊥
+no-five n h k = omega arith
+
+pub lawful : (c : Coding) → Lawful (coder c)
+lawful And = record { least = omega arith; most = omega arith; back = and-row; third = λ _ _. refl; fourth = λ _ _. refl; fifth = λ _ _. refl }
+lawful AndXor = record { least = omega arith; most = omega arith; back = xor-row; third = λ _ _. refl; fourth = λ _ _. refl; fifth = λ _ _. refl }
+lawful Majority = record { least = omega arith; most = omega arith; back = majority-row; third = λ _ h. absurd (no-three h); fourth = λ _ _. refl; fifth = λ _ _. refl }
+lawful Every = record {
+  least = omega arith;
+  most = omega arith;
+  back = λ _ _. refl;
+  third = λ _ h. absurd (no-five 2 (omega arith) h);
+  fourth = λ _ h. absurd (no-five 3 (omega arith) h);
+  fifth = λ _ h. absurd (no-five 4 (omega arith) h);
+}
+
 -- ---- two rows that a coding codes have the same words only where they are equal
 
-pub same-row : (k : Coder) → Lawful k → (r s : Row) → k .codes r ≡ true → k .codes s ≡ true → k .encode r ≡ k .encode s → r ≡ s
-same-row k l r s x y e = sym (l .back r x) ∙ ap (k .decode) e ∙ l .back s y
+pub same-row : (c : Coding) (r s : Row) → coder c .codes r ≡ true → coder c .codes s ≡ true → coder c .encode r ≡ coder c .encode s → r ≡ s
+same-row c r s x y e = sym (lawful c .back r x) ∙ ap (coder c .decode) e ∙ lawful c .back s y

@@ -95,11 +95,11 @@ tripleNodes r = small (r .a) && small (r .b) && small (r .c) && unused (r .d)
 abbrev pub andCoder : Coder
 andCoder = record { width = 2; codes = λ r. pairNodes r && isAnd (r .table); encode = pairEncode; decode = pairDecode }
 
-abbrev pub xorCoder : Coder
-xorCoder = record { width = 2; codes = λ r. pairNodes r && (isAnd (r .table) || isXor (r .table)); encode = pairEncode; decode = pairDecode }
+abbrev pub andXorCoder : Coder
+andXorCoder = record { width = 2; codes = λ r. pairNodes r && (isAnd (r .table) || isXor (r .table)); encode = pairEncode; decode = pairDecode }
 
 abbrev pub majorityCoder : Coder
 majorityCoder = record { width = 3; codes = λ r. tripleNodes r && (isAnd (r .table) || isMajority (r .table)); encode = tripleEncode; decode = tripleDecode }
 
-abbrev pub tableCoder : Coder
-tableCoder = record { width = 5; codes = λ _. true; encode = tableEncode; decode = tableDecode }
+abbrev pub everyCoder : Coder
+everyCoder = record { width = 5; codes = λ _. true; encode = tableEncode; decode = tableDecode }

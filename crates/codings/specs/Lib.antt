@@ -1,2 +1,3 @@
 pub mod Coders
 pub mod Codes
+pub mod Codings
