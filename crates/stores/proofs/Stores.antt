@@ -12,6 +12,7 @@ use Rattle.std.specs.Finite.{nth}
 use Rattle.std.specs.Options.{Cases}
 use Rattle.std.specs.declared.option.Option.{Option}
 use Rattle.std.specs.declared.option.Option.the-variants.{Some, None}
+use Rattle.std.proofs.shelf.Maps.{nth-getD}
 use Rattle.netlists.specs.declared.Row.{Row}
 use Rattle.codings.specs.declared.coded.Coded.{Coded}
 use Rattle.codings.specs.Codings.{coder}
@@ -19,7 +20,7 @@ use Rattle.codings.proofs.Back.{lawful}
 use Rattle.stores.specs.declared.store.Store.{Store}
 use Rattle.stores.specs.Blocks.{placesIn, block, withBlock, rowAt, rowsIn, NoBlock}
 use Rattle.stores.specs.Stores.{wordsOf, rowsOf, widthOf, Absent, First, Alike, Pushed}
-use Rattle.stores.proofs.Words.{block-fits, blocks-fit, block-away, length-block}
+use Rattle.stores.proofs.Words.{block-fits, blocks-fit, block-away, length-block, places-most}
 use Rattle.stores.proofs.Rows.{rows-length, rows-getD, rows-nth, kept-codes, pushed-rows, absent, present}
 
 -- ---- room
@@ -53,7 +54,23 @@ row-codes s i d h =
 pub rows-most : (s : Store) → length (rowsOf s) ≤ s .places
 rows-most s = let n = rows-count s in let w = s .within in omega arith
 
+pub places-many : (s : Store) → s .places ≡ placesIn (widthOf s) (length (wordsOf s))
+places-many s = s .room ∙ ap (placesIn (widthOf s)) (s .words .ok .0)
+
+pub places-few : (s : Store) → s .places ≤ 544
+places-few s = let r = s .room in let m = places-most (widthOf s) (vec-len (s .words)) in omega arith
+
 -- ---- the search
+
+-- by a default, where a list of rows is read with one
+pub absent-getD : (rs : List Row) (n : ℕ) (r d : Row) → Absent rs n r → (k : ℕ) → k < n → k < length rs → getD rs k d ≡ r → ⊥
+absent-getD rs n r d a k h l e = a k h (nth-getD rs k d l ∙ ap Some e)
+
+pub first-getD : (rs : List Row) (r d : Row) (i : ℕ) → First rs r i → getD rs i d ≡ r
+first-getD rs r d i f =
+    let a = nth-getD rs i d (f .inside) in
+    let b = f .here in
+    cc
 
 abbrev Finding : Store → Option ℕ → ℕ → List ℕ → Coded → Type 0
 Finding s o width ws key = Cases o (NoBlock width ws (s .count) key) (λ i. (i < s .count) × (block width ws i ≡ key) × NoBlock width ws i key)

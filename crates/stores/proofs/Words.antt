@@ -5,7 +5,7 @@ use mathlib.Core.Bool.{Bool, true, false, cond, _&&_}
 use mathlib.Core.List.{List}
 use mathlib.Core.Logic.{_≢_, _⊎_, inl, inr, ⊎-elim}
 use native.Mathlib.Omega.{arith}
-use native.Mathlib.Nat.{add-zero, mul-add, mul-comm, mul-le-mul-left, min-le-left, div-mul-le-self}
+use native.Mathlib.Nat.{add-zero, mul-add, mul-comm, mul-le-mul-left, min-le-left, min-le-right, div-mul-le-self}
 use lib.Dec.{eqb, ltb}
 use lib.ListN.{length, getD, set, length-set}
 use Rattle.std.proofs.shelf.Lists.{getD-set-same, getD-set-other}
@@ -140,3 +140,7 @@ blocks-fit width l n h =
     let b = div-mul-le-self l width in
     let c = mul-comm (l / width) width in
     omega arith
+
+pub places-most : (width l : ℕ) → placesIn width l ≤ 544
+unfolding placesIn
+places-most width l = min-le-right (l / width) 544

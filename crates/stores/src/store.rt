@@ -1,5 +1,6 @@
 //! A list of rows over words that the caller gives.
 pub mod calls;
+pub mod questions;
 
 ghost use mathlib.Core.Path.{_≡_};
 ghost use mathlib.Core.Bool.{true};

@@ -13,5 +13,5 @@ ghost-result c =
     (e, (omega arith, ((λ k h. absurd (not-suc-le-zero h)), tt)))
 
 pub returns : need.returns
-unfolding rowsIn
-returns c = record { coding = refl; words = refl; rows = refl }
+unfolding rowsIn placesIn
+returns c = record { coding = refl; words = refl; places = cc; rows = refl }
