@@ -3,6 +3,7 @@ use Prim.Native.Nat.{ℕ, zero, suc}
 use mathlib.Core.Bool.{Bool, true, false, not, cond, _&&_}
 use mathlib.Core.List.{List, [], _∷_, _++_, map}
 use lib.Dec.{eqb}
+use lib.ListN.{getD}
 use Rattle.tables.specs.declared.Variable.{Variable}
 use Rattle.tables.specs.declared.Variable.the-variants.{V0, V1, V2, V3}
 use Rattle.classes.specs.declared.Order.{Order}
@@ -47,3 +48,10 @@ firstOf (a ∷ as′) = secondOf digits a ++ firstOf as′
 
 unfoldable pub orders : List Order
 orders = firstOf digits
+
+abbrev identity : Order
+identity = record { a = 0; b = 1; c = 2; d = 3 }
+
+-- order number q
+abbrev pub orderAt : ℕ → Order
+orderAt q = getD orders q identity

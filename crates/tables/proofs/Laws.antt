@@ -225,3 +225,23 @@ pub composed-code : (f p q r s t : ℕ) → t < 65536
     → t ≡ composed f p q r s
 unfolding composed
 composed-code f p q r s t h e = is-tableOf t (λ x. value f (record { a = value p x; b = value q x; c = value r x; d = value s x })) h (λ x. e x ∙ sym (plain f (record { a = value p x; b = value q x; c = value r x; d = value s x })))
+
+pub value-composed : (f p q r s : ℕ) (x : Setting) → value (composed f p q r s) x ≡ value f (record { a = value p x; b = value q x; c = value r x; d = value s x })
+unfolding composed
+value-composed f p q r s x = value-tableOf (λ y. value f (record { a = value p y; b = value q y; c = value r y; d = value s y })) x
+
+pub composed-lt : (f p q r s : ℕ) → composed f p q r s < 65536
+unfolding composed
+composed-lt f p q r s = tableOf-lt (λ y. value f (record { a = value p y; b = value q y; c = value r y; d = value s y }))
+
+pub complement-lt : (f : ℕ) → complement f < 65536
+unfolding complement
+complement-lt f = tableOf-lt (λ y. not (value f y))
+
+pub flipped-lt : (f : ℕ) (v : Variable) → flipped f v < 65536
+unfolding flipped
+flipped-lt f v = tableOf-lt (λ y. value f (put y v (not (get y v))))
+
+pub cofactor-lt : (f : ℕ) (v : Variable) (t : Bool) → cofactor f v t < 65536
+unfolding cofactor
+cofactor-lt f v t = tableOf-lt (λ y. value f (put y v t))

@@ -47,3 +47,21 @@ spanOf V0 = 1
 spanOf V1 = 2
 spanOf V2 = 4
 spanOf V3 = 8
+
+abbrev pub sameVariable : Variable → Variable → Bool
+sameVariable V0 V0 = true
+sameVariable V0 V1 = false
+sameVariable V0 V2 = false
+sameVariable V0 V3 = false
+sameVariable V1 V0 = false
+sameVariable V1 V1 = true
+sameVariable V1 V2 = false
+sameVariable V1 V3 = false
+sameVariable V2 V0 = false
+sameVariable V2 V1 = false
+sameVariable V2 V2 = true
+sameVariable V2 V3 = false
+sameVariable V3 V0 = false
+sameVariable V3 V1 = false
+sameVariable V3 V2 = false
+sameVariable V3 V3 = true
