@@ -1,9 +1,10 @@
 //! The four codings.
 ghost use mathlib.Core.Path.{_≡_};
 ghost use mathlib.Core.Bool.{true};
-ghost use Rattle.codings.specs.Codings.{coder};
+ghost use Rattle.codings.specs.Codings.{coder, ownershipOf};
 use crate::coded::Coded;
 use crate::packing;
+use classes::Ownership;
 use netlists::Row;
 
 /// A coding of rows in a few words. A row that it codes comes back as it was, so two such rows have the same words
@@ -29,6 +30,17 @@ impl Coding {
             Coding::And | Coding::AndXor => 2,
             Coding::Majority => 3,
             Coding::Every => 5,
+        }
+    }
+
+    /// The classes that the rows' tables are of.
+    pub fn ownership(self) -> Ownership
+        ensures { λ r. ⌜ r ≡ ownershipOf self ⌝ }
+    {
+        Ownership {
+            xor: matches!(self, Coding::AndXor | Coding::Every),
+            majority: matches!(self, Coding::Majority | Coding::Every),
+            every: matches!(self, Coding::Every),
         }
     }
 
