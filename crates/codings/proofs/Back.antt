@@ -1,15 +1,13 @@
 -- A row that a coding codes comes back as it was.
 use Prim.Native.Nat.{ℕ, _+_, _*_, _/_, _%_, _<_, _≤_}
 use mathlib.Core.Path.{_≡_, refl, sym, _∙_, ap, subst}
-use mathlib.Core.Bool.{Bool, true, false, cond, _&&_, _||_}
-use mathlib.Core.Logic.{_⊎_, inl, inr, ⊎-elim}
+use mathlib.Core.Bool.{Bool, true, _&&_, _||_}
+use mathlib.Core.Logic.{_⊎_, ⊎-elim}
 use native.Mathlib.Omega.{arith}
 use lib.Dec.{eqb, ltb}
 use Rattle.std.proofs.shelf.Tests.{and-parts, or-cases, eqb-true, ltb-true}
-use Rattle.netlists.specs.declared.Node.{Node}
 use Rattle.netlists.specs.declared.Row.{Row}
-use Rattle.codings.specs.declared.coded.Coded.{Coded}
-use Rattle.codings.specs.Coders.{Coder, Lawful}
+use Rattle.codings.specs.Coders.{Lawful}
 use Rattle.codings.specs.declared.coding.Coding.{Coding}
 use Rattle.codings.specs.declared.coding.Coding.the-variants.{And, AndXor, Majority, Every}
 use Rattle.codings.specs.Codings.{coder}

@@ -1,5 +1,5 @@
 -- How rows are written as words: what a coding has to say of itself, and the laws that it keeps.
-use Prim.Native.Nat.{ℕ, _<_, _≤_}
+use Prim.Native.Nat.{ℕ, _≤_}
 use mathlib.Core.Path.{_≡_}
 use mathlib.Core.Bool.{Bool, true}
 use Rattle.netlists.specs.declared.Row.{Row}

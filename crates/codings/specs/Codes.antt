@@ -1,6 +1,6 @@
 -- The four codings. A word of the first three holds a node below 1024, and the first of them also the number of the table.
 use Prim.Native.Nat.{ℕ, _+_, _*_, _/_, _%_}
-use mathlib.Core.Bool.{Bool, true, false, cond, _&&_, _||_}
+use mathlib.Core.Bool.{Bool, true, cond, _&&_, _||_}
 use lib.Dec.{eqb, ltb}
 use Rattle.netlists.specs.declared.Node.{Node}
 use Rattle.netlists.specs.declared.Row.{Row}

@@ -1,13 +1,13 @@
 -- The rows in a list of words: how many, which, and what one more leaves.
 use Prim.Native.Nat.{ℕ, zero, suc, _+_, _*_, _<_, _≤_}
 use mathlib.Core.Path.{_≡_, refl, sym, _∙_, ap, subst}
-use mathlib.Core.Bool.{Bool, true, false, cond, _&&_}
+use mathlib.Core.Bool.{true, _&&_}
 use mathlib.Core.List.{List, [], _∷_, _++_}
-use mathlib.Core.Logic.{_≢_, _⊎_, inl, inr, ⊎-elim}
+use mathlib.Core.Logic.{_⊎_, inl, ⊎-elim}
 use native.Mathlib.Omega.{arith}
 use native.Mathlib.Numerals.{add-one}
 use native.Mathlib.Nat.{not-suc-le-zero}
-use lib.ListN.{length, getD, length-append}
+use lib.ListN.{length, getD}
 use borrow.Author.Count.{below-more}
 use Rattle.std.specs.Finite.{nth}
 use Rattle.std.specs.declared.option.Option.the-variants.{Some, None}
@@ -17,8 +17,8 @@ use Rattle.std.proofs.shelf.Tests.{and-parts, and-from, cases-order}
 use Rattle.netlists.specs.declared.Row.{Row}
 use Rattle.codings.specs.declared.coded.Coded.{Coded}
 use Rattle.codings.specs.Coders.{Coder, Lawful}
-use Rattle.stores.specs.Blocks.{placesIn, blockFrom, block, withBlock, rowAt, rowsIn, keptAt, sameWords, NoBlock}
-use Rattle.stores.proofs.Words.{length-block, block-away, block-here, block-same, same-words-true, same-words-refl, block-fits, blocks-apart}
+use Rattle.stores.specs.Blocks.{block, withBlock, rowAt, rowsIn, keptAt, sameWords, NoBlock}
+use Rattle.stores.proofs.Words.{block-away, block-here, block-same, same-words-true, same-words-refl, blocks-apart}
 
 pub rows-length : (k : Coder) (ws : List ℕ) (n : ℕ) → length (rowsIn k ws n) ≡ n
 unfolding rowsIn

@@ -2,13 +2,12 @@
 use Prim.Native.Nat.{ℕ, _+_, _*_, _<_, _≤_}
 use mathlib.Core.Path.{_≡_, refl, sym, _∙_, ap, subst}
 use mathlib.Core.Bool.{true}
-use mathlib.Core.List.{List, [], _∷_, _++_}
+use mathlib.Core.List.{List}
 use mathlib.Core.Logic.{inl, inr}
 use native.Mathlib.Omega.{arith}
 use native.Mathlib.Nat.{mul-add}
 use lib.ListN.{length, getD}
-use Rattle.std.specs.Of.Vec.{vec-items, vec-len}
-use Rattle.std.specs.Finite.{nth}
+use Rattle.std.specs.Of.Vec.{vec-len}
 use Rattle.std.specs.Options.{Cases}
 use Rattle.std.specs.declared.option.Option.{Option}
 use Rattle.std.specs.declared.option.Option.the-variants.{Some, None}
@@ -18,10 +17,10 @@ use Rattle.codings.specs.declared.coded.Coded.{Coded}
 use Rattle.codings.specs.Codings.{coder}
 use Rattle.codings.proofs.Back.{lawful}
 use Rattle.stores.specs.declared.store.Store.{Store}
-use Rattle.stores.specs.Blocks.{placesIn, block, withBlock, rowAt, rowsIn, NoBlock}
-use Rattle.stores.specs.Stores.{wordsOf, rowsOf, widthOf, Absent, First, Alike, Pushed}
+use Rattle.stores.specs.Blocks.{placesIn, block, withBlock, NoBlock}
+use Rattle.stores.specs.Stores.{wordsOf, rowsOf, widthOf, Absent, First, Pushed}
 use Rattle.stores.proofs.Words.{block-fits, blocks-fit, block-away, length-block, places-most}
-use Rattle.stores.proofs.Rows.{rows-length, rows-getD, rows-nth, kept-codes, pushed-rows, absent, present}
+use Rattle.stores.proofs.Rows.{rows-length, rows-getD, kept-codes, pushed-rows, absent, present}
 
 -- ---- room
 

@@ -1,9 +1,9 @@
 -- What a block's writing leaves, and what it puts there.
-use Prim.Native.Nat.{ℕ, _+_, _*_, _/_, _<_, _≤_, min}
-use mathlib.Core.Path.{_≡_, refl, sym, _∙_, ap, subst}
-use mathlib.Core.Bool.{Bool, true, false, cond, _&&_}
+use Prim.Native.Nat.{ℕ, _+_, _*_, _/_, _<_, _≤_}
+use mathlib.Core.Path.{_≡_, refl, sym, _∙_, ap}
+use mathlib.Core.Bool.{true, _&&_}
 use mathlib.Core.List.{List}
-use mathlib.Core.Logic.{_≢_, _⊎_, inl, inr, ⊎-elim}
+use mathlib.Core.Logic.{_≢_, _⊎_, ⊎-elim}
 use native.Mathlib.Omega.{arith}
 use native.Mathlib.Nat.{add-zero, mul-add, mul-comm, mul-le-mul-left, min-le-left, min-le-right, div-mul-le-self}
 use lib.Dec.{eqb, ltb}
@@ -11,7 +11,7 @@ use lib.ListN.{length, getD, set, length-set}
 use Rattle.std.proofs.shelf.Lists.{getD-set-same, getD-set-other}
 use Rattle.std.proofs.shelf.Tests.{ltb-true, ltb-false, lt-ltb, cond-true, cond-false, cond-both, eqb-true, and-parts, eq-eqb}
 use Rattle.codings.specs.declared.coded.Coded.{Coded}
-use Rattle.stores.specs.Blocks.{placesIn, wordAt, blockFrom, block, withWord, withBlock, sameWords}
+use Rattle.stores.specs.Blocks.{placesIn, wordAt, blockFrom, withWord, withBlock, sameWords}
 
 -- ---- one word
 
