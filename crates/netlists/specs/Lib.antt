@@ -1,1 +1,5 @@
+pub mod Refusals
 pub mod Netlists
+pub mod Normal
+pub mod Placing
+pub mod Lawful

@@ -220,3 +220,32 @@ joined-keeps f j k w d e h x t =
 -- where f does not depend on k, reading k as j changes nothing
 pub joined-idle : (f : ℕ) (j k : Variable) → Free f k → (x : Setting) → value (joined f j k) x ≡ value f x
 joined-idle f j k h x = value-joined f j k x ∙ h x (get x j)
+
+-- two tables that depend alike
+pub depends-alike : (f g : ℕ) (v w : Variable) → (Free f v → Free g w) → (Free g w → Free f v) → dependsOn f v ≡ dependsOn g w
+depends-alike f g v w p q = go (dependsOn f v) (dependsOn g w) (λ e. free-depends g w (p (depends-free f v e))) (λ e. free-depends f v (q (depends-free g w e)))
+  where
+    go : (s t : Bool) → (s ≡ false → t ≡ false) → (t ≡ false → s ≡ false) → s ≡ t
+    go true true a b = refl
+    go true false a b = b refl
+    go false true a b = sym (a refl)
+    go false false a b = refl
+
+swapped-back : (f : ℕ) (j k v : Variable) → Free (swapped f j k) v → Free f (swapVariable j k v)
+swapped-back f j k v h =
+    free-same (swapped (swapped f j k) j k) f (swapVariable j k v)
+    (λ x. sym (value-swapped (swapped f j k) j k x ∙ value-swapped f j k (exchanged x j k) ∙ ap (value f) (exchanged-twice x j k)))
+    (swapped-moves (swapped f j k) j k (swapVariable j k v) (subst (Free (swapped f j k)) (sym (swap-twice j k v)) h))
+
+pub depends-swapped : (f : ℕ) (j k v : Variable) → dependsOn (swapped f j k) v ≡ dependsOn f (swapVariable j k v)
+depends-swapped f j k v = depends-alike (swapped f j k) f v (swapVariable j k v) (swapped-back f j k v) (swapped-moves f j k v)
+
+not-not : (b : Bool) → not (not b) ≡ b
+not-not true = refl
+not-not false = refl
+
+pub depends-complement : (f : ℕ) (v : Variable) → dependsOn (complement f) v ≡ dependsOn f v
+depends-complement f v =
+    depends-alike (complement f) f v v
+    (λ h x t. sym (not-not (value f (put x v t))) ∙ ap not (sym (value-complement f (put x v t)) ∙ h x t ∙ value-complement f x) ∙ not-not (value f x))
+    (λ h x t. value-complement f (put x v t) ∙ ap not (h x t) ∙ sym (value-complement f x))
