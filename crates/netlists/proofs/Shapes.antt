@@ -25,19 +25,19 @@ use Rattle.netlists.proofs.Steps.{table-withNode, withNode-same, groundedBy, u
 abbrev numberAt : Row → Variable → ℕ
 numberAt r v = nodeAt r v .number
 
-nodeAt-withTable : (r : Row) (f : ℕ) (v : Variable) → nodeAt (withTable r f) v ≡ nodeAt r v
+pub nodeAt-withTable : (r : Row) (f : ℕ) (v : Variable) → nodeAt (withTable r f) v ≡ nodeAt r v
 nodeAt-withTable r f V0 = refl
 nodeAt-withTable r f V1 = refl
 nodeAt-withTable r f V2 = refl
 nodeAt-withTable r f V3 = refl
 
-nodeAt-withNode : (r : Row) (v : Variable) (n : Node) → nodeAt (withNode r v n) v ≡ n
+pub nodeAt-withNode : (r : Row) (v : Variable) (n : Node) → nodeAt (withNode r v n) v ≡ n
 nodeAt-withNode r V0 n = refl
 nodeAt-withNode r V1 n = refl
 nodeAt-withNode r V2 n = refl
 nodeAt-withNode r V3 n = refl
 
-nodeAt-withNode-other : (r : Row) (n : Node) (v w : Variable) → T (differ w v) → nodeAt (withNode r v n) w ≡ nodeAt r w
+pub nodeAt-withNode-other : (r : Row) (n : Node) (v w : Variable) → T (differ w v) → nodeAt (withNode r v n) w ≡ nodeAt r w
 nodeAt-withNode-other r n =
     every-variable (λ v. (w : Variable) → T (differ w v) → nodeAt (withNode r v n) w ≡ nodeAt r w)
     (every-variable _ (λ h. absurd h) (λ h. refl) (λ h. refl) (λ h. refl))

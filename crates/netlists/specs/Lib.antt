@@ -3,3 +3,4 @@ pub mod Netlists
 pub mod Normal
 pub mod Placing
 pub mod Lawful
+pub mod Meaning
