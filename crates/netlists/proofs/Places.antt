@@ -13,6 +13,7 @@ use Rattle.std.specs.declared.result.Result.the-variants.{Ok, Err}
 use Rattle.std.proofs.shelf.Lists.{getD-append-left, getD-push, length-push}
 use Rattle.std.proofs.shelf.Tests.{eqb-true, eqb-false, ltb-true, ltb-false, leb-true, le-leb, and-parts, cases-lt}
 use Rattle.tables.specs.declared.Variable.{Variable}
+use Rattle.tables.specs.declared.Variable.the-variants.{V0}
 use Rattle.tables.specs.Bits.{inverted}
 use Rattle.tables.specs.Tables.{value}
 use Rattle.classes.specs.declared.Ownership.{Ownership}
@@ -33,6 +34,10 @@ use Rattle.netlists.proofs.Shapes.{normal-means}
 use Rattle.netlists.proofs.Values.{values-length, values-prefix, values-append, row-value, node-zero, lone-value}
 use Rattle.netlists.proofs.Alike.{alike-le, alike-found, alike-first}
 use Rattle.netlists.proofs.Nodes.{normal-nodes}
+
+positive : (k : ℕ) → (k ≡ 0 → ⊥) → 0 < k
+positive zero h = absurd (h refl)
+positive (suc k) h = omega arith
 
 -- ---- nodes that are there
 
@@ -188,3 +193,121 @@ module _ (o : Ownership) (places : ℕ) (n : Netlist) (law : Lawful o places n) 
         there = le-leb (n .inputs + 1 + length (n .rows)) (n .inputs + length (n .rows ++ form .row ∷ [])) le;
         means = row-means (withRow n (form .row)) (length (n .rows)) ext inside (getD-push (n .rows) (form .row) noRow (length (n .rows)) refl) early;
       }
+
+  row-good : 0 < form .row .b .number → owns o (form .row .table) ≡ true → Good (placeRow places n (form .row) (form .inverted))
+  unfolding placeRow
+  row-good two own = go (ltb k (length (n .rows))) (ltb-true k (length (n .rows))) (ltb-false k (length (n .rows))) (ltb (length (n .rows)) places) (ltb-true (length (n .rows)) places)
+    where
+      k : ℕ
+      k = firstAlike (form .row) (n .rows)
+      go : (b : Bool) → (b ≡ true → k < length (n .rows)) → (b ≡ false → length (n .rows) ≤ k) → (c : Bool) → (c ≡ true → length (n .rows) < places)
+          → Good (elim b [
+            true ↦ Ok (record { signal = signalOf (rowNode n k) (form .inverted); netlist = n })
+          | false ↦ elim c [
+              true ↦ Ok (record { signal = signalOf (rowNode n (length (n .rows))) (form .inverted); netlist = withRow n (form .row) })
+            | false ↦ Err NoPlace
+            ]
+          ])
+      go true p q c r = found (p refl)
+      go false p q true r = added (q refl) (r refl) two own
+      go false p q false r = tt
+
+  lone : form .row .b .number ≡ 0 → Placed o places n f s (record { signal = signalOf (form .row .a) (form .inverted); netlist = n })
+  lone z =
+      let p = all-there n s all in
+      let a = normal-nodes (λ k. leb k (n .inputs + length (n .rows)) ≡ true) (le-leb 0 (n .inputs + length (n .rows)) (omega arith)) f s (p .0) (p .1) (p .2) (p .3) in
+      record {
+        lawful = law;
+        kept = same-extends n;
+        there = a V0;
+        means = λ xs l.
+          let φ = held (nodeValues n xs) in
+          ap (inverted (form .inverted)) (sym (lone-value φ (node-zero n xs) (form .row) (normal-means f s small .lawful) z)) ∙ normal-means f s small .means φ (node-zero n xs);
+      }
+
+  form-good : Good (placeForm o places n form)
+  unfolding placeForm
+  form-good = go (eqb (form .row .b .number) 0) (eqb-true (form .row .b .number) 0) (eqb-false (form .row .b .number) 0) (owns o (form .row .table)) refl
+    where
+      go : (b : Bool) → (b ≡ true → form .row .b .number ≡ 0) → (b ≡ false → form .row .b .number ≡ 0 → ⊥) → (c : Bool) → owns o (form .row .table) ≡ c
+          → Good (elim b [
+            true ↦ Ok (record { signal = signalOf (form .row .a) (form .inverted); netlist = n })
+          | false ↦ elim c [ true ↦ placeRow places n (form .row) (form .inverted) | false ↦ Err NotOwned ]
+          ])
+      go true p q c r = lone (p refl)
+      go false p q true r = row-good (positive (form .row .b .number) (q refl)) r
+      go false p q false r = tt
+
+-- ---- what an accepted call gives
+
+abbrev Answered : Ownership → ℕ → Netlist → ℕ → Fanins → Result Placing Refusal → Type 0
+Answered o places n f s (Ok p) = Placed o places n f s p
+Answered o places n f s (Err e) = Unit {0}
+
+place-good : (o : Ownership) (places : ℕ) (n : Netlist) → Lawful o places n → (f : ℕ) → f < 65536 → (s : Fanins) → Answered o places n f s (place o places n f s)
+unfolding place
+place-good o places n law f small s = go (allThere n s) refl
+  where
+    same : (all : allThere n s ≡ true) (r : Result Placing Refusal) → Good o places n law f small s all r → Answered o places n f s r
+    same all (Ok p) g = g
+    same all (Err e) g = tt
+    go : (b : Bool) → allThere n s ≡ b → Answered o places n f s (elim b [ true ↦ placeForm o places n (normal f s) | false ↦ Err NoSuchNode ])
+    go true e = same e (placeForm o places n (normal f s)) (form-good o places n law f small s e)
+    go false e = tt
+
+-- table f over four signals, where the call is accepted
+pub place-placed : (o : Ownership) (places : ℕ) (n : Netlist) (f : ℕ) (s : Fanins) (p : Placing) → Lawful o places n → f < 65536 → place o places n f s ≡ Ok p → Placed o places n f s p
+place-placed o places n f s p law small e = subst (Answered o places n f s) e (place-good o places n law f small s)
+
+-- an empty network is lawful
+pub empty-lawful : (o : Ownership) (places i : ℕ) → places ≤ 544 → i ≤ 32 → Lawful o places (empty i)
+empty-lawful o places i p h = record {
+  few-places = p;
+  few-inputs = h;
+  few-outputs = omega arith;
+  room = omega arith;
+  rows-lawful = λ k l. absurd (not-suc-le-zero l);
+  no-two-alike = λ j k l m e. absurd (not-suc-le-zero l);
+  outputs-there = λ k l. absurd (not-suc-le-zero l);
+}
+
+abbrev LawfulAfter : Ownership → ℕ → Result Netlist Refusal → Type 0
+LawfulAfter o places (Ok n) = Lawful o places n
+LawfulAfter o places (Err e) = Unit {0}
+
+pub start-lawful : (o : Ownership) (places i : ℕ) (n : Netlist) → places ≤ 544 → start i ≡ Ok n → Lawful o places n
+unfolding start
+start-lawful o places i n p e = subst (LawfulAfter o places) e (good (leb i 32) (leb-true i 32))
+  where
+    good : (b : Bool) → (b ≡ true → i ≤ 32) → LawfulAfter o places (elim b [ true ↦ Ok (empty i) | false ↦ Err TooManyInputs ])
+    good true h = empty-lawful o places i p (h refl)
+    good false h = tt
+
+added-output : (o : Ownership) (places : ℕ) (n : Netlist) (s : Signal) → Lawful o places n → isThere n (s .node) ≡ true → length (n .outputs) < 32 → Lawful o places (withOutput n s)
+added-output o places n s law t l =
+    let e = length-push (n .outputs) s in
+    record {
+      few-places = law .few-places;
+      few-inputs = law .few-inputs;
+      few-outputs = omega arith;
+      room = law .room;
+      rows-lawful = law .rows-lawful;
+      no-two-alike = law .no-two-alike;
+      outputs-there = λ k h.
+        elim (cases-lt k (length (n .outputs))) [
+          inl a ↦ subst (λ (x : Signal). isThere n (x .node) ≡ true) (sym (getD-append-left (n .outputs) (s ∷ []) noSignal k a)) (law .outputs-there k a)
+        | inr a ↦
+          let q : length (n .outputs) ≡ k = omega arith in
+          subst (λ (x : Signal). isThere n (x .node) ≡ true) (sym (getD-push (n .outputs) s noSignal k q)) t
+        ];
+    }
+
+pub output-lawful : (o : Ownership) (places : ℕ) (n : Netlist) (s : Signal) (m : Netlist) → Lawful o places n → output n s ≡ Ok m → Lawful o places m
+unfolding output
+output-lawful o places n s m law e = subst (LawfulAfter o places) e (good (isThere n (s .node)) refl (ltb (length (n .outputs)) 32) (ltb-true (length (n .outputs)) 32))
+  where
+    good : (b : Bool) → isThere n (s .node) ≡ b → (c : Bool) → (c ≡ true → length (n .outputs) < 32)
+        → LawfulAfter o places (elim b [ true ↦ elim c [ true ↦ Ok (withOutput n s) | false ↦ Err TooManyOutputs ] | false ↦ Err NoSuchNode ])
+    good true p true q = added-output o places n s law p (q refl)
+    good true p false q = tt
+    good false p c q = tt
