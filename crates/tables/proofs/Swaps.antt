@@ -154,6 +154,10 @@ pub flipped-lt : (f : ℕ) (v : Variable) → flipped f v < 65536
 unfolding flipped
 flipped-lt f v = tableOf-lt (λ y. value f (put y v (not (get y v))))
 
+pub chosen-lt : (z h l : ℕ) → chosen z h l < 65536
+unfolding chosen
+chosen-lt z h l = tableOf-lt (λ y. cond (value z y) (value h y) (value l y))
+
 pub complement-lt : (f : ℕ) → complement f < 65536
 unfolding complement
 complement-lt f = tableOf-lt (λ y. not (value f y))
@@ -249,3 +253,35 @@ depends-complement f v =
     depends-alike (complement f) f v v
     (λ h x t. sym (not-not (value f (put x v t))) ∙ ap not (sym (value-complement f (put x v t)) ∙ h x t ∙ value-complement f x) ∙ not-not (value f x))
     (λ h x t. value-complement f (put x v t) ∙ ap not (h x t) ∙ sym (value-complement f x))
+
+-- ---- the code's way to join and to exchange two variables
+
+by-value : (f : ℕ) (x : Setting) (v : Variable) (t : Bool) → cond t (value f (put x v true)) (value f (put x v false)) ≡ value f (put x v t)
+by-value f x v true = refl
+by-value f x v false = refl
+
+pub joined-code : (f : ℕ) (j k : Variable) → chosen (variable j) (cofactor f k true) (cofactor f k false) ≡ joined f j k
+joined-code f j k =
+    same-values (chosen (variable j) (cofactor f k true) (cofactor f k false)) (joined f j k) (chosen-lt (variable j) (cofactor f k true) (cofactor f k false)) (joined-lt f j k)
+    (λ x.
+      value-chosen (variable j) (cofactor f k true) (cofactor f k false) x
+      ∙ ap (λ (t : Bool). cond t (value (cofactor f k true) x) (value (cofactor f k false) x)) (value-variable j x)
+      ∙ ap₂ (λ (s t : Bool). cond (get x j) s t) (value-cofactor f k true x) (value-cofactor f k false x)
+      ∙ by-value f x k (get x j) ∙ sym (value-joined f j k x))
+
+exchanged-other : (x : Setting) (j k : Variable) → put (put x k (get x j)) j (get x k) ≡ exchanged x j k
+exchanged-other x =
+    every-variable (λ j. (k : Variable) → put (put x k (get x j)) j (get x k) ≡ exchanged x j k)
+    (every-variable _ refl refl refl refl) (every-variable _ refl refl refl refl) (every-variable _ refl refl refl refl) (every-variable _ refl refl refl refl)
+
+pub swapped-code : (f : ℕ) (j k : Variable) → chosen (variable k) (joined (cofactor f j true) j k) (joined (cofactor f j false) j k) ≡ swapped f j k
+swapped-code f j k =
+    let h = joined (cofactor f j true) j k in
+    let l = joined (cofactor f j false) j k in
+    same-values (chosen (variable k) h l) (swapped f j k) (chosen-lt (variable k) h l) (swapped-lt f j k)
+    (λ x.
+      let y = put x k (get x j) in
+      value-chosen (variable k) h l x
+      ∙ ap (λ (t : Bool). cond t (value h x) (value l x)) (value-variable k x)
+      ∙ ap₂ (λ (s t : Bool). cond (get x k) s t) (value-joined (cofactor f j true) j k x ∙ value-cofactor f j true y) (value-joined (cofactor f j false) j k x ∙ value-cofactor f j false y)
+      ∙ by-value f y j (get x k) ∙ ap (value f) (exchanged-other x j k) ∙ sym (value-swapped f j k x))
