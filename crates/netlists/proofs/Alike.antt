@@ -52,8 +52,8 @@ same-self r =
     let eq = λ (k : ℕ). eq-eqb k k refl in
     and-from (upToC r r) (eqb (r .d .number) (r .d .number))
     (and-from (upToB r r) (eqb (r .c .number) (r .c .number))
-      (and-from (upToA r r) (eqb (r .b .number) (r .b .number)) (and-from (tables r r) (eqb (r .a .number) (r .a .number)) (eq (r .table)) (eq (r .a .number))) (eq (r .b .number)))
-      (eq (r .c .number)))
+    (and-from (upToA r r) (eqb (r .b .number) (r .b .number)) (and-from (tables r r) (eqb (r .a .number) (r .a .number)) (eq (r .table)) (eq (r .a .number))) (eq (r .b .number)))
+    (eq (r .c .number)))
     (eq (r .d .number))
 
 pub row-same : (r q : Row) → r ≡ q → sameRow r q ≡ true
@@ -96,14 +96,14 @@ alike-first r (x ∷ xs) k h e = go (sameRow x r) refl k h e (alike-first r xs)
 pub alike-is : (r : Row) (rs : List Row) (k : ℕ) → k < length rs → getD rs k noRow ≡ r → ((j : ℕ) → j < k → getD rs j noRow ≡ r → ⊥) → firstAlike r rs ≡ k
 alike-is r rs k h e none =
     elim (cases-lt (firstAlike r rs) k) [
-      inl l ↦ absurd (none (firstAlike r rs) l (alike-found r rs (omega arith)))
-    | inr l ↦ elim (cases-lt k (firstAlike r rs)) [ inl m ↦ absurd (alike-first r rs k m e) | inr m ↦ omega arith ]
+      | inl l ↦ absurd (none (firstAlike r rs) l (alike-found r rs (omega arith)))
+      | inr l ↦ elim (cases-lt k (firstAlike r rs)) [ inl m ↦ absurd (alike-first r rs k m e) | inr m ↦ omega arith ]
     ]
 
 -- where no row is alike, the number of rows is answered
 pub alike-none : (r : Row) (rs : List Row) → ((j : ℕ) → j < length rs → getD rs j noRow ≡ r → ⊥) → firstAlike r rs ≡ length rs
 alike-none r rs none =
     elim (cases-lt (firstAlike r rs) (length rs)) [
-      inl l ↦ absurd (none (firstAlike r rs) l (alike-found r rs l))
-    | inr l ↦ let m = alike-le r rs in omega arith
+      | inl l ↦ absurd (none (firstAlike r rs) l (alike-found r rs l))
+      | inr l ↦ let m = alike-le r rs in omega arith
     ]

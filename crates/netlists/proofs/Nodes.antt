@@ -28,8 +28,8 @@ nodes-withTable P r f h v = subst (λ (n : Node). P (n .number)) (sym (nodeAt-wi
 nodes-withNode : (P : ℕ → Type 0) (r : Row) (k : Variable) (n : Node) → P (n .number) → Nodes P r → Nodes P (withNode r k n)
 nodes-withNode P r k n p h v =
     elim (same-or-differ v k) [
-      inl e ↦ subst (λ (u : Variable). P (nodeAt (withNode r k n) u .number)) (sym e) (subst (λ (m : Node). P (m .number)) (sym (nodeAt-withNode r k n)) p)
-    | inr d ↦ subst (λ (m : Node). P (m .number)) (sym (nodeAt-withNode-other r n k v d)) (h v)
+      | inl e ↦ subst (λ (u : Variable). P (nodeAt (withNode r k n) u .number)) (sym e) (subst (λ (m : Node). P (m .number)) (sym (nodeAt-withNode r k n)) p)
+      | inr d ↦ subst (λ (m : Node). P (m .number)) (sym (nodeAt-withNode-other r n k v d)) (h v)
     ]
 
 grounded-nodes : (P : ℕ → Type 0) (r : Row) (v : Variable) → Nodes P r → Nodes P (grounded r v)

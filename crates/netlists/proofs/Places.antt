@@ -27,7 +27,7 @@ use Rattle.netlists.specs.declared.Refusal.{Refusal}
 use Rattle.netlists.specs.declared.Refusal.the-variants.{NoSuchNode, TooManyInputs, TooManyOutputs, NotOwned, NoPlace}
 use Rattle.netlists.specs.Netlists.{Netlist, Assignment, signalUnder, rowUnder, faninsUnder, held, values, nodeValues, signalValue}
 use Rattle.netlists.specs.Normal.{nodeAt, normal}
-use Rattle.netlists.specs.Placing.{isThere, allThere, rowNode, noRow, noSignal, firstAlike, Placing, withRow, signalOf, placeRow, placeForm, place, empty, start, withOutput, output}
+use Rattle.netlists.specs.Placing.{isThere, allThere, rowNode, noRow, noSignal, firstAlike, Placing, withRow, signalOf, placeRow, placeForm, afterPlace, empty, afterStart, withOutput, afterOutput}
 use Rattle.netlists.specs.Lawful.{Normal, Means, LawfulRow, Lawful}
 use Rattle.netlists.specs.Meaning.{Extends, Placed}
 use Rattle.netlists.proofs.Shapes.{normal-means}
@@ -65,13 +65,14 @@ added-extends n r = record {
   same-inputs = refl;
   same-outputs = refl;
   same-values = λ xs l x t.
-    let h = there n x t in
-    let e = length-push (n .rows) r in
-    let k = values-length (false ∷ xs) (n .rows) in
-    let lt : x .number < length (values (false ∷ xs) (n .rows)) = omega (arith, h, k, l) in
-    let le : x .number ≤ n .inputs + length (n .rows ++ r ∷ []) = omega (arith, h, e) in
-    (le-leb (x .number) (n .inputs + length (n .rows ++ r ∷ [])) le,
-     ap (λ (vs : List Bool). held vs (x .number)) (values-append (false ∷ xs) (n .rows) (r ∷ [])) ∙ values-prefix (values (false ∷ xs) (n .rows)) (r ∷ []) (x .number) lt);
+      let h = there n x t in
+      let e = length-push (n .rows) r in
+      let k = values-length (false ∷ xs) (n .rows) in
+      let lt : x .number < length (values (false ∷ xs) (n .rows)) = omega (arith, h, k, l) in
+      let le : x .number ≤ n .inputs + length (n .rows ++ r ∷ []) = omega (arith, h, e) in (
+        le-leb (x .number) (n .inputs + length (n .rows ++ r ∷ [])) le,
+        ap (λ (vs : List Bool). held vs (x .number)) (values-append (false ∷ xs) (n .rows) (r ∷ [])) ∙ values-prefix (values (false ∷ xs) (n .rows)) (r ∷ []) (x .number) lt,
+      );
 }
 
 fanins-same : (n m : Netlist) (s : Fanins) → Extends n m → allThere n s ≡ true → (xs : List Bool) → length xs ≡ n .inputs
@@ -91,7 +92,7 @@ row-signal m k i h e xs l =
     let q : length (false ∷ xs) + k ≡ m .inputs + 1 + k = omega (arith, l) in
     ap (inverted i)
     (subst (λ (x : ℕ). held (nodeValues m xs) x ≡ rowUnder (held (nodeValues m xs)) (getD (m .rows) k noRow)) q
-      (row-value (false ∷ xs) (m .rows) k h (λ v. omega (arith, q, e v))))
+    (row-value (false ∷ xs) (m .rows) k h (λ v. omega (arith, q, e v))))
 
 -- ---- place
 
@@ -141,11 +142,11 @@ module _ (o : Ownership) (places : ℕ) (n : Netlist) (law : Lawful o places n) 
   added-rows two own k h =
       let e = length-push (n .rows) (form .row) in
       elim (cases-lt k (length (n .rows))) [
-        inl l ↦ subst (LawfulRow o (n .inputs + 1 + k)) (sym (getD-append-left (n .rows) (form .row ∷ []) noRow k l)) (law .rows-lawful k l)
-      | inr l ↦
-        let q : length (n .rows) ≡ k = omega arith in
-        subst (LawfulRow o (n .inputs + 1 + k)) (sym (getD-push (n .rows) (form .row) noRow k q))
-        (record { shape = normal-means f s small .lawful; two = two; earlier = λ v. subst (λ (x : ℕ). nodeAt (form .row) v .number < n .inputs + 1 + x) q (early v); owned = own })
+        | inl l ↦ subst (LawfulRow o (n .inputs + 1 + k)) (sym (getD-append-left (n .rows) (form .row ∷ []) noRow k l)) (law .rows-lawful k l)
+        | inr l ↦
+            let q : length (n .rows) ≡ k = omega arith in
+            subst (LawfulRow o (n .inputs + 1 + k)) (sym (getD-push (n .rows) (form .row) noRow k q))
+            (record { shape = normal-means f s small .lawful; two = two; earlier = λ v. subst (λ (x : ℕ). nodeAt (form .row) v .number < n .inputs + 1 + x) q (early v); owned = own })
       ]
 
   alone : length (n .rows) ≤ firstAlike (form .row) (n .rows) → (j k : ℕ) → j < length (n .rows ++ form .row ∷ []) → k < length (n .rows ++ form .row ∷ [])
@@ -155,17 +156,17 @@ module _ (o : Ownership) (places : ℕ) (n : Netlist) (law : Lawful o places n) 
       let old = λ (i : ℕ) (l : i < length (n .rows)). getD-append-left (n .rows) (form .row ∷ []) noRow i l in
       let new = λ (i : ℕ) (l : length (n .rows) ≡ i). getD-push (n .rows) (form .row) noRow i l in
       elim (cases-lt j (length (n .rows))) [
-        inl lj ↦ elim (cases-lt k (length (n .rows))) [
-          inl lk ↦ law .no-two-alike j k lj lk (sym (old j lj) ∙ e ∙ old k lk)
-        | inr lk ↦
-          let q : length (n .rows) ≡ k = omega arith in
-          absurd (alike-first (form .row) (n .rows) j (omega arith) (sym (old j lj) ∙ e ∙ new k q))
+        | inl lj ↦ elim (cases-lt k (length (n .rows))) [
+          | inl lk ↦ law .no-two-alike j k lj lk (sym (old j lj) ∙ e ∙ old k lk)
+          | inr lk ↦
+              let q : length (n .rows) ≡ k = omega arith in
+              absurd (alike-first (form .row) (n .rows) j (omega arith) (sym (old j lj) ∙ e ∙ new k q))
         ]
-      | inr lj ↦ elim (cases-lt k (length (n .rows))) [
-          inl lk ↦
-          let q : length (n .rows) ≡ j = omega arith in
-          absurd (alike-first (form .row) (n .rows) k (omega arith) (sym (old k lk) ∙ sym e ∙ new j q))
-        | inr lk ↦ omega arith
+        | inr lj ↦ elim (cases-lt k (length (n .rows))) [
+          | inl lk ↦
+              let q : length (n .rows) ≡ j = omega arith in
+              absurd (alike-first (form .row) (n .rows) k (omega arith) (sym (old k lk) ∙ sym e ∙ new j q))
+          | inr lk ↦ omega arith
         ]
       ]
 
@@ -185,9 +186,9 @@ module _ (o : Ownership) (places : ℕ) (n : Netlist) (law : Lawful o places n) 
           rows-lawful = added-rows two own;
           no-two-alike = alone none;
           outputs-there = λ k h.
-            let t = there n (getD (n .outputs) k noSignal .node) (law .outputs-there k h) in
-            let l : getD (n .outputs) k noSignal .node .number ≤ n .inputs + length (n .rows ++ form .row ∷ []) = omega arith in
-            le-leb (getD (n .outputs) k noSignal .node .number) (n .inputs + length (n .rows ++ form .row ∷ [])) l;
+              let t = there n (getD (n .outputs) k noSignal .node) (law .outputs-there k h) in
+              let l : getD (n .outputs) k noSignal .node .number ≤ n .inputs + length (n .rows ++ form .row ∷ []) = omega arith in
+              le-leb (getD (n .outputs) k noSignal .node .number) (n .inputs + length (n .rows ++ form .row ∷ [])) l;
         };
         kept = ext;
         there = le-leb (n .inputs + 1 + length (n .rows)) (n .inputs + length (n .rows ++ form .row ∷ [])) le;
@@ -200,12 +201,13 @@ module _ (o : Ownership) (places : ℕ) (n : Netlist) (law : Lawful o places n) 
     where
       k : ℕ
       k = firstAlike (form .row) (n .rows)
+
       go : (b : Bool) → (b ≡ true → k < length (n .rows)) → (b ≡ false → length (n .rows) ≤ k) → (c : Bool) → (c ≡ true → length (n .rows) < places)
           → Good (elim b [
-            true ↦ Ok (record { signal = signalOf (rowNode n k) (form .inverted); netlist = n })
-          | false ↦ elim c [
-              true ↦ Ok (record { signal = signalOf (rowNode n (length (n .rows))) (form .inverted); netlist = withRow n (form .row) })
-            | false ↦ Err NoPlace
+            | true ↦ Ok (record { signal = signalOf (rowNode n k) (form .inverted); netlist = n })
+            | false ↦ elim c [
+              | true ↦ Ok (record { signal = signalOf (rowNode n (length (n .rows))) (form .inverted); netlist = withRow n (form .row) })
+              | false ↦ Err NoPlace
             ]
           ])
       go true p q c r = found (p refl)
@@ -221,8 +223,8 @@ module _ (o : Ownership) (places : ℕ) (n : Netlist) (law : Lawful o places n) 
         kept = same-extends n;
         there = a V0;
         means = λ xs l.
-          let φ = held (nodeValues n xs) in
-          ap (inverted (form .inverted)) (sym (lone-value φ (node-zero n xs) (form .row) (normal-means f s small .lawful) z)) ∙ normal-means f s small .means φ (node-zero n xs);
+            let φ = held (nodeValues n xs) in
+            ap (inverted (form .inverted)) (sym (lone-value φ (node-zero n xs) (form .row) (normal-means f s small .lawful) z)) ∙ normal-means f s small .means φ (node-zero n xs);
       }
 
   form-good : Good (placeForm o places n form)
@@ -231,8 +233,8 @@ module _ (o : Ownership) (places : ℕ) (n : Netlist) (law : Lawful o places n) 
     where
       go : (b : Bool) → (b ≡ true → form .row .b .number ≡ 0) → (b ≡ false → form .row .b .number ≡ 0 → ⊥) → (c : Bool) → owns o (form .row .table) ≡ c
           → Good (elim b [
-            true ↦ Ok (record { signal = signalOf (form .row .a) (form .inverted); netlist = n })
-          | false ↦ elim c [ true ↦ placeRow places n (form .row) (form .inverted) | false ↦ Err NotOwned ]
+            | true ↦ Ok (record { signal = signalOf (form .row .a) (form .inverted); netlist = n })
+            | false ↦ elim c [ true ↦ placeRow places n (form .row) (form .inverted) | false ↦ Err NotOwned ]
           ])
       go true p q c r = lone (p refl)
       go false p q true r = row-good (positive (form .row .b .number) (q refl)) r
@@ -244,19 +246,20 @@ abbrev Answered : Ownership → ℕ → Netlist → ℕ → Fanins → Result Pl
 Answered o places n f s (Ok p) = Placed o places n f s p
 Answered o places n f s (Err e) = Unit {0}
 
-place-good : (o : Ownership) (places : ℕ) (n : Netlist) → Lawful o places n → (f : ℕ) → f < 65536 → (s : Fanins) → Answered o places n f s (place o places n f s)
-unfolding place
+place-good : (o : Ownership) (places : ℕ) (n : Netlist) → Lawful o places n → (f : ℕ) → f < 65536 → (s : Fanins) → Answered o places n f s (afterPlace o places n f s)
+unfolding afterPlace
 place-good o places n law f small s = go (allThere n s) refl
   where
     same : (all : allThere n s ≡ true) (r : Result Placing Refusal) → Good o places n law f small s all r → Answered o places n f s r
     same all (Ok p) g = g
     same all (Err e) g = tt
+
     go : (b : Bool) → allThere n s ≡ b → Answered o places n f s (elim b [ true ↦ placeForm o places n (normal f s) | false ↦ Err NoSuchNode ])
     go true e = same e (placeForm o places n (normal f s)) (form-good o places n law f small s e)
     go false e = tt
 
 -- table f over four signals, where the call is accepted
-pub place-placed : (o : Ownership) (places : ℕ) (n : Netlist) (f : ℕ) (s : Fanins) (p : Placing) → Lawful o places n → f < 65536 → place o places n f s ≡ Ok p → Placed o places n f s p
+pub place-placed : (o : Ownership) (places : ℕ) (n : Netlist) (f : ℕ) (s : Fanins) (p : Placing) → Lawful o places n → f < 65536 → afterPlace o places n f s ≡ Ok p → Placed o places n f s p
 place-placed o places n f s p law small e = subst (Answered o places n f s) e (place-good o places n law f small s)
 
 -- an empty network is lawful
@@ -275,8 +278,8 @@ abbrev LawfulAfter : Ownership → ℕ → Result Netlist Refusal → Type 0
 LawfulAfter o places (Ok n) = Lawful o places n
 LawfulAfter o places (Err e) = Unit {0}
 
-pub start-lawful : (o : Ownership) (places i : ℕ) (n : Netlist) → places ≤ 544 → start i ≡ Ok n → Lawful o places n
-unfolding start
+pub start-lawful : (o : Ownership) (places i : ℕ) (n : Netlist) → places ≤ 544 → afterStart i ≡ Ok n → Lawful o places n
+unfolding afterStart
 start-lawful o places i n p e = subst (LawfulAfter o places) e (good (leb i 32) (leb-true i 32))
   where
     good : (b : Bool) → (b ≡ true → i ≤ 32) → LawfulAfter o places (elim b [ true ↦ Ok (empty i) | false ↦ Err TooManyInputs ])
@@ -294,16 +297,16 @@ added-output o places n s law t l =
       rows-lawful = law .rows-lawful;
       no-two-alike = law .no-two-alike;
       outputs-there = λ k h.
-        elim (cases-lt k (length (n .outputs))) [
-          inl a ↦ subst (λ (x : Signal). isThere n (x .node) ≡ true) (sym (getD-append-left (n .outputs) (s ∷ []) noSignal k a)) (law .outputs-there k a)
-        | inr a ↦
-          let q : length (n .outputs) ≡ k = omega arith in
-          subst (λ (x : Signal). isThere n (x .node) ≡ true) (sym (getD-push (n .outputs) s noSignal k q)) t
-        ];
+          elim (cases-lt k (length (n .outputs))) [
+            | inl a ↦ subst (λ (x : Signal). isThere n (x .node) ≡ true) (sym (getD-append-left (n .outputs) (s ∷ []) noSignal k a)) (law .outputs-there k a)
+            | inr a ↦
+                let q : length (n .outputs) ≡ k = omega arith in
+                subst (λ (x : Signal). isThere n (x .node) ≡ true) (sym (getD-push (n .outputs) s noSignal k q)) t
+          ];
     }
 
-pub output-lawful : (o : Ownership) (places : ℕ) (n : Netlist) (s : Signal) (m : Netlist) → Lawful o places n → output n s ≡ Ok m → Lawful o places m
-unfolding output
+pub output-lawful : (o : Ownership) (places : ℕ) (n : Netlist) (s : Signal) (m : Netlist) → Lawful o places n → afterOutput n s ≡ Ok m → Lawful o places m
+unfolding afterOutput
 output-lawful o places n s m law e = subst (LawfulAfter o places) e (good (isThere n (s .node)) refl (ltb (length (n .outputs)) 32) (ltb-true (length (n .outputs)) 32))
   where
     good : (b : Bool) → isThere n (s .node) ≡ b → (c : Bool) → (c ≡ true → length (n .outputs) < 32)

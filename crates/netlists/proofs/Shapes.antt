@@ -82,8 +82,8 @@ unread-withNode : (r : Row) (k : Variable) (n : Node) → Free (r .table) k → 
 unread-withNode r k n own rest w e =
     subst (λ (f : ℕ). Free f w) (sym (table-withNode r k n))
     (elim (same-or-differ w k) [
-      inl p ↦ subst (Free (r .table)) (sym p) own
-    | inr d ↦ rest w d (ap (λ (m : Node). m .number) (sym (nodeAt-withNode-other r n k w d)) ∙ e)
+      | inl p ↦ subst (Free (r .table)) (sym p) own
+      | inr d ↦ rest w d (ap (λ (m : Node). m .number) (sym (nodeAt-withNode-other r n k w d)) ∙ e)
     ])
 
 unified-unread : (r : Row) (j k : Variable) → T (differ k j) → (b : Bool) → (b ≡ true → numberAt r j ≡ numberAt r k) → ((v : Variable) → Unread r v) → (w : Variable) → Unread (unifiedBy r j k b) w
@@ -91,11 +91,11 @@ unified-unread r j k d true same h =
     let f = joined (r .table) j k in
     unread-withNode (withTable r f) k none (joined-own (r .table) j k d)
     (λ w o e.
-      let z : numberAt r w ≡ 0 = ap (λ (m : Node). m .number) (sym (nodeAt-withTable r f w)) ∙ e in
-      elim (same-or-differ w j) [
-        inl p ↦ free-same (r .table) f w (joined-idle (r .table) j k (h k (sym (same refl) ∙ subst (λ (u : Variable). numberAt r u ≡ 0) p z))) (h w z)
+    let z : numberAt r w ≡ 0 = ap (λ (m : Node). m .number) (sym (nodeAt-withTable r f w)) ∙ e in
+    elim (same-or-differ w j) [
+      | inl p ↦ free-same (r .table) f w (joined-idle (r .table) j k (h k (sym (same refl) ∙ subst (λ (u : Variable). numberAt r u ≡ 0) p z))) (h w z)
       | inr q ↦ joined-keeps (r .table) j k w o q (h w z)
-      ])
+    ])
 unified-unread r j k d false same h = subst (λ (q : Row). (w : Variable) → Unread q w) (sym (withNode-same r k)) h
 
 unifies : (r : Row) (j k : Variable) → T (differ k j) → ((v : Variable) → Unread r v) → (w : Variable) → Unread (unified r j k) w
@@ -125,16 +125,16 @@ Shrinks r q = (v : Variable) → (numberAt q v ≡ numberAt r v) ⊎ (numberAt q
 apart-shrinks : (r q : Row) (j k : Variable) → Shrinks r q → Apart r j k → Apart q j k
 apart-shrinks r q j k s a e =
     elim (s k) [
-      inr z ↦ z
-    | inl p ↦ elim (s j) [ inr z ↦ sym e ∙ z | inl o ↦ p ∙ a (sym o ∙ e ∙ p) ]
+      | inr z ↦ z
+      | inl p ↦ elim (s j) [ inr z ↦ sym e ∙ z | inl o ↦ p ∙ a (sym o ∙ e ∙ p) ]
     ]
 
 unified-shrinks : (r : Row) (j k : Variable) (b : Bool) → Shrinks r (unifiedBy r j k b)
 unified-shrinks r j k true w =
     let q = withTable r (joined (r .table) j k) in
     elim (same-or-differ w k) [
-      inl p ↦ inr (subst (λ (u : Variable). numberAt (withNode q k none) u ≡ 0) (sym p) (ap (λ (m : Node). m .number) (nodeAt-withNode q k none)))
-    | inr d ↦ inl (ap (λ (m : Node). m .number) (nodeAt-withNode-other q none k w d ∙ nodeAt-withTable r (joined (r .table) j k) w))
+      | inl p ↦ inr (subst (λ (u : Variable). numberAt (withNode q k none) u ≡ 0) (sym p) (ap (λ (m : Node). m .number) (nodeAt-withNode q k none)))
+      | inr d ↦ inl (ap (λ (m : Node). m .number) (nodeAt-withNode-other q none k w d ∙ nodeAt-withTable r (joined (r .table) j k) w))
     ]
 unified-shrinks r j k false w = inl (ap (λ (q : Row). numberAt q w) (withNode-same r k))
 
@@ -184,10 +184,10 @@ allUnified-once r =
 once-shrinks : (r q : Row) → Shrinks r q → Once r → Once q
 once-shrinks r q s o v w e =
     elim (s v) [
-      inr z ↦ inr z
-    | inl p ↦ elim (s w) [
-        inr z ↦ inr (e ∙ z)
-      | inl t ↦ elim (o v w (sym p ∙ e ∙ t)) [ inl same ↦ inl same | inr z ↦ inr (p ∙ z) ]
+      | inr z ↦ inr z
+      | inl p ↦ elim (s w) [
+        | inr z ↦ inr (e ∙ z)
+        | inl t ↦ elim (o v w (sym p ∙ e ∙ t)) [ inl same ↦ inl same | inr z ↦ inr (p ∙ z) ]
       ]
     ]
 
@@ -200,8 +200,8 @@ trim-exact : (f : ℕ) (v : Variable) (n : Node) (b : Bool) → dependsOn f v �
 trim-exact f v n false e h = e
 trim-exact f v n true e h =
     e ∙ sym (lt-ltb 0 (n .number) (elim (cases-lt 0 (n .number)) [
-      inl l ↦ l
-    | inr z ↦ let y : n .number ≡ 0 = omega arith in absurd (false≢true (sym (free-depends f v (h y)) ∙ e))
+      | inl l ↦ l
+      | inr z ↦ let y : n .number ≡ 0 = omega arith in absurd (false≢true (sym (free-depends f v (h y)) ∙ e))
     ]))
 
 trim-shrinks : (n : Node) (b : Bool) → (cond b n none .number ≡ n .number) ⊎ (cond b n none .number ≡ 0)
@@ -230,13 +230,13 @@ nodeAt-exchanged : (r : Row) (f : ℕ) (j k v : Variable) → nodeAt (withNode (
 nodeAt-exchanged r f =
     every-variable (λ j. (k v : Variable) → nodeAt (withNode (withNode (withTable r f) j (nodeAt r k)) k (nodeAt r j)) v ≡ nodeAt r (swapVariable j k v))
     (every-variable (λ k. (v : Variable) → nodeAt (withNode (withNode (withTable r f) V0 (nodeAt r k)) k (nodeAt r V0)) v ≡ nodeAt r (swapVariable V0 k v))
-      (every-variable _ refl refl refl refl) (every-variable _ refl refl refl refl) (every-variable _ refl refl refl refl) (every-variable _ refl refl refl refl))
+    (every-variable _ refl refl refl refl) (every-variable _ refl refl refl refl) (every-variable _ refl refl refl refl) (every-variable _ refl refl refl refl))
     (every-variable (λ k. (v : Variable) → nodeAt (withNode (withNode (withTable r f) V1 (nodeAt r k)) k (nodeAt r V1)) v ≡ nodeAt r (swapVariable V1 k v))
-      (every-variable _ refl refl refl refl) (every-variable _ refl refl refl refl) (every-variable _ refl refl refl refl) (every-variable _ refl refl refl refl))
+    (every-variable _ refl refl refl refl) (every-variable _ refl refl refl refl) (every-variable _ refl refl refl refl) (every-variable _ refl refl refl refl))
     (every-variable (λ k. (v : Variable) → nodeAt (withNode (withNode (withTable r f) V2 (nodeAt r k)) k (nodeAt r V2)) v ≡ nodeAt r (swapVariable V2 k v))
-      (every-variable _ refl refl refl refl) (every-variable _ refl refl refl refl) (every-variable _ refl refl refl refl) (every-variable _ refl refl refl refl))
+    (every-variable _ refl refl refl refl) (every-variable _ refl refl refl refl) (every-variable _ refl refl refl refl) (every-variable _ refl refl refl refl))
     (every-variable (λ k. (v : Variable) → nodeAt (withNode (withNode (withTable r f) V3 (nodeAt r k)) k (nodeAt r V3)) v ≡ nodeAt r (swapVariable V3 k v))
-      (every-variable _ refl refl refl refl) (every-variable _ refl refl refl refl) (every-variable _ refl refl refl refl) (every-variable _ refl refl refl refl))
+    (every-variable _ refl refl refl refl) (every-variable _ refl refl refl refl) (every-variable _ refl refl refl refl) (every-variable _ refl refl refl refl))
 
 table-ordered : (r : Row) (j k : Variable) (b : Bool) → orderedBy r j k b .table ≡ cond b (swapped (r .table) j k) (r .table)
 table-ordered r j k b =
@@ -254,8 +254,8 @@ ordered-once : (r : Row) (j k : Variable) (b : Bool) → Once r → Once (ordere
 ordered-once r j k true o v w e =
     let at = λ (u : Variable). ap (λ (n : Node). n .number) (nodeAt-exchanged r (swapped (r .table) j k) j k u) in
     elim (o (swapVariable j k v) (swapVariable j k w) (sym (at v) ∙ e ∙ at w)) [
-      inl p ↦ inl (sym (swap-twice j k v) ∙ ap (swapVariable j k) p ∙ swap-twice j k w)
-    | inr z ↦ inr (at v ∙ z)
+      | inl p ↦ inl (sym (swap-twice j k v) ∙ ap (swapVariable j k) p ∙ swap-twice j k w)
+      | inr z ↦ inr (at v ∙ z)
     ]
 ordered-once r j k false o v w e = subst Once (sym (ordered-idle r j k)) o v w e
 
@@ -293,20 +293,22 @@ positive k h = elim (cases-lt 0 k) [ inl l ↦ l | inr z ↦ let y : k ≡ 0 = o
 
 precedes-true : (m n : Node) → precedes m n ≡ true → After m n
 precedes-true m n e h =
-    let p = and-parts (ltb 0 (m .number)) (eqb (n .number) 0 || ltb (m .number) (n .number)) e in
-    (ltb-true 0 (m .number) (p .0), elim (or-cases (eqb (n .number) 0) (ltb (m .number) (n .number)) (p .1)) [
-      inl z ↦ omega (arith, eqb-true (n .number) 0 z)
-    | inr l ↦ omega (arith, ltb-true (m .number) (n .number) l)
-    ])
+    let p = and-parts (ltb 0 (m .number)) (eqb (n .number) 0 || ltb (m .number) (n .number)) e in (
+      ltb-true 0 (m .number) (p .0),
+      elim (or-cases (eqb (n .number) 0) (ltb (m .number) (n .number)) (p .1)) [
+        | inl z ↦ omega (arith, eqb-true (n .number) 0 z)
+        | inr l ↦ omega (arith, ltb-true (m .number) (n .number) l)
+      ],
+    )
 
 precedes-false : (m n : Node) → precedes m n ≡ false → After n m
 precedes-false m n e h =
     elim (and-cases (ltb 0 (m .number)) (eqb (n .number) 0 || ltb (m .number) (n .number)) e) [
-      inl z ↦ let l : m .number ≤ 0 = ltb-false 0 (m .number) z in (omega arith, omega arith)
-    | inr z ↦
-      let p = or-parts (eqb (n .number) 0) (ltb (m .number) (n .number)) z in
-      let l : n .number ≤ m .number = ltb-false (m .number) (n .number) (p .1) in
-      (positive (n .number) (eqb-false (n .number) 0 (p .0)), l)
+      | inl z ↦ let l : m .number ≤ 0 = ltb-false 0 (m .number) z in (omega arith, omega arith)
+      | inr z ↦
+          let p = or-parts (eqb (n .number) 0) (ltb (m .number) (n .number)) z in
+          let l : n .number ≤ m .number = ltb-false (m .number) (n .number) (p .1) in
+          (positive (n .number) (eqb-false (n .number) 0 (p .0)), l)
     ]
 
 -- the order of two, and what lies before or after both

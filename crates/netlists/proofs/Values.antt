@@ -48,10 +48,10 @@ row-value vs (r ∷ rs) zero h e =
     let ws = vs ++ rowUnder (held vs) r ∷ [] in
     let l : length vs < length ws = simp length-append (omega arith) in
     rw add-zero (values-prefix ws rs (length vs) l ∙ getD-push vs (rowUnder (held vs) r) false (length vs) refl
-      ∙ row-same (held vs) (held (values ws rs)) r (λ v.
-          let b : nodeAt r v .number < length vs = omega (arith, e v) in
-          let c : nodeAt r v .number < length ws = omega arith in
-          sym (values-prefix ws rs (nodeAt r v .number) c ∙ getD-append-left vs (rowUnder (held vs) r ∷ []) false (nodeAt r v .number) b)))
+    ∙ row-same (held vs) (held (values ws rs)) r (λ v.
+    let b : nodeAt r v .number < length vs = omega (arith, e v) in
+    let c : nodeAt r v .number < length ws = omega arith in
+    sym (values-prefix ws rs (nodeAt r v .number) c ∙ getD-append-left vs (rowUnder (held vs) r ∷ []) false (nodeAt r v .number) b)))
 row-value vs (r ∷ rs) (suc k) h e =
     let ws = vs ++ rowUnder (held vs) r ∷ [] in
     let q : length ws + k ≡ length vs + suc k = simp length-append (omega arith) in

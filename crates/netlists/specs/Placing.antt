@@ -63,10 +63,10 @@ signalOf x i = record { node = x; inverted = i }
 unfoldable pub placeRow : ℕ → Netlist → Row → Bool → Result Placing Refusal
 placeRow places n r i =
     elim (ltb (firstAlike r (n .rows)) (length (n .rows))) [
-      true ↦ Ok (record { signal = signalOf (rowNode n (firstAlike r (n .rows))) i; netlist = n })
-    | false ↦ elim (ltb (length (n .rows)) places) [
-        true ↦ Ok (record { signal = signalOf (rowNode n (length (n .rows))) i; netlist = withRow n r })
-      | false ↦ Err NoPlace
+      | true ↦ Ok (record { signal = signalOf (rowNode n (firstAlike r (n .rows))) i; netlist = n })
+      | false ↦ elim (ltb (length (n .rows)) places) [
+        | true ↦ Ok (record { signal = signalOf (rowNode n (length (n .rows))) i; netlist = withRow n r })
+        | false ↦ Err NoPlace
       ]
     ]
 
@@ -74,30 +74,30 @@ placeRow places n r i =
 unfoldable pub placeForm : Ownership → ℕ → Netlist → Form → Result Placing Refusal
 placeForm o places n g =
     elim (eqb (g .row .b .number) 0) [
-      true ↦ Ok (record { signal = signalOf (g .row .a) (g .inverted); netlist = n })
-    | false ↦ elim (owns o (g .row .table)) [ true ↦ placeRow places n (g .row) (g .inverted) | false ↦ Err NotOwned ]
+      | true ↦ Ok (record { signal = signalOf (g .row .a) (g .inverted); netlist = n })
+      | false ↦ elim (owns o (g .row .table)) [ true ↦ placeRow places n (g .row) (g .inverted) | false ↦ Err NotOwned ]
     ]
 
 -- table f over four signals, in a network with these places
-unfoldable pub place : Ownership → ℕ → Netlist → ℕ → Fanins → Result Placing Refusal
-place o places n f s = elim (allThere n s) [ true ↦ placeForm o places n (normal f s) | false ↦ Err NoSuchNode ]
+unfoldable pub afterPlace : Ownership → ℕ → Netlist → ℕ → Fanins → Result Placing Refusal
+afterPlace o places n f s = elim (allThere n s) [ true ↦ placeForm o places n (normal f s) | false ↦ Err NoSuchNode ]
 
 -- ---- start, output and the questions
 
 abbrev pub empty : ℕ → Netlist
 empty i = record { inputs = i; rows = []; outputs = [] }
 
-unfoldable pub start : ℕ → Result Netlist Refusal
-start i = elim (leb i 32) [ true ↦ Ok (empty i) | false ↦ Err TooManyInputs ]
+unfoldable pub afterStart : ℕ → Result Netlist Refusal
+afterStart i = elim (leb i 32) [ true ↦ Ok (empty i) | false ↦ Err TooManyInputs ]
 
 abbrev pub withOutput : Netlist → Signal → Netlist
 withOutput n s = record { inputs = n .inputs; rows = n .rows; outputs = n .outputs ++ s ∷ [] }
 
-unfoldable pub output : Netlist → Signal → Result Netlist Refusal
-output n s =
+unfoldable pub afterOutput : Netlist → Signal → Result Netlist Refusal
+afterOutput n s =
     elim (isThere n (s .node)) [
-      true ↦ elim (ltb (length (n .outputs)) 32) [ true ↦ Ok (withOutput n s) | false ↦ Err TooManyOutputs ]
-    | false ↦ Err NoSuchNode
+      | true ↦ elim (ltb (length (n .outputs)) 32) [ true ↦ Ok (withOutput n s) | false ↦ Err TooManyOutputs ]
+      | false ↦ Err NoSuchNode
     ]
 
 unfoldable pub rowAsked : Netlist → ℕ → Result Row Refusal

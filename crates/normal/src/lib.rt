@@ -92,7 +92,10 @@ fn ground(row: Row, v: Variable) -> Row
     ensures { λ r. ⌜ r ≡ grounded row v ⌝ }
 {
     if node_at(row, v).number() == 0 {
-        Row { table: low_cofactor(row.table, v), ..row }
+        Row {
+            table: low_cofactor(row.table, v),
+            ..row
+        }
     } else {
         row
     }
@@ -103,7 +106,10 @@ fn unify(row: Row, j: Variable, k: Variable) -> Row
     ensures { λ r. ⌜ r ≡ unified row j k ⌝ }
 {
     if node_at(row, j).number() == node_at(row, k).number() {
-        let joined = Row { table: join_variables(row.table, j, k), ..row };
+        let joined = Row {
+            table: join_variables(row.table, j, k),
+            ..row
+        };
         with_node(joined, k, Node::new(0))
     } else {
         row
@@ -135,7 +141,10 @@ fn order(row: Row, j: Variable, k: Variable) -> Row
     let m = node_at(row, j);
     let n = node_at(row, k);
     if stands_before(n, m) {
-        let swapped = Row { table: swap_variables(row.table, j, k), ..row };
+        let swapped = Row {
+            table: swap_variables(row.table, j, k),
+            ..row
+        };
         with_node(with_node(swapped, j, n), k, m)
     } else {
         row
@@ -189,9 +198,18 @@ fn settle(row: Row) -> Form
     ensures { λ r. ⌜ r ≡ settled row ⌝ }
 {
     if row.table & 1 == 1 {
-        Form { row: Row { table: invert(row.table), ..row }, inverted: true }
+        Form {
+            row: Row {
+                table: invert(row.table),
+                ..row
+            },
+            inverted: true,
+        }
     } else {
-        Form { row, inverted: false }
+        Form {
+            row,
+            inverted: false,
+        }
     }
 }
 

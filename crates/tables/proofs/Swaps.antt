@@ -55,13 +55,13 @@ pub swap-twice : (j k v : Variable) → swapVariable j k (swapVariable j k v) �
 swap-twice =
     every-variable (λ j. (k v : Variable) → swapVariable j k (swapVariable j k v) ≡ v)
     (every-variable (λ k. (v : Variable) → swapVariable V0 k (swapVariable V0 k v) ≡ v)
-      (every-variable _ refl refl refl refl) (every-variable _ refl refl refl refl) (every-variable _ refl refl refl refl) (every-variable _ refl refl refl refl))
+    (every-variable _ refl refl refl refl) (every-variable _ refl refl refl refl) (every-variable _ refl refl refl refl) (every-variable _ refl refl refl refl))
     (every-variable (λ k. (v : Variable) → swapVariable V1 k (swapVariable V1 k v) ≡ v)
-      (every-variable _ refl refl refl refl) (every-variable _ refl refl refl refl) (every-variable _ refl refl refl refl) (every-variable _ refl refl refl refl))
+    (every-variable _ refl refl refl refl) (every-variable _ refl refl refl refl) (every-variable _ refl refl refl refl) (every-variable _ refl refl refl refl))
     (every-variable (λ k. (v : Variable) → swapVariable V2 k (swapVariable V2 k v) ≡ v)
-      (every-variable _ refl refl refl refl) (every-variable _ refl refl refl refl) (every-variable _ refl refl refl refl) (every-variable _ refl refl refl refl))
+    (every-variable _ refl refl refl refl) (every-variable _ refl refl refl refl) (every-variable _ refl refl refl refl) (every-variable _ refl refl refl refl))
     (every-variable (λ k. (v : Variable) → swapVariable V3 k (swapVariable V3 k v) ≡ v)
-      (every-variable _ refl refl refl refl) (every-variable _ refl refl refl refl) (every-variable _ refl refl refl refl) (every-variable _ refl refl refl refl))
+    (every-variable _ refl refl refl refl) (every-variable _ refl refl refl refl) (every-variable _ refl refl refl refl) (every-variable _ refl refl refl refl))
 
 -- ---- settings
 
@@ -108,25 +108,25 @@ pub get-exchanged : (x : Setting) (j k v : Variable) → get (exchanged x j k) v
 get-exchanged x =
     every-variable (λ j. (k v : Variable) → get (exchanged x j k) v ≡ get x (swapVariable j k v))
     (every-variable (λ k. (v : Variable) → get (exchanged x V0 k) v ≡ get x (swapVariable V0 k v))
-      (every-variable _ refl refl refl refl) (every-variable _ refl refl refl refl) (every-variable _ refl refl refl refl) (every-variable _ refl refl refl refl))
+    (every-variable _ refl refl refl refl) (every-variable _ refl refl refl refl) (every-variable _ refl refl refl refl) (every-variable _ refl refl refl refl))
     (every-variable (λ k. (v : Variable) → get (exchanged x V1 k) v ≡ get x (swapVariable V1 k v))
-      (every-variable _ refl refl refl refl) (every-variable _ refl refl refl refl) (every-variable _ refl refl refl refl) (every-variable _ refl refl refl refl))
+    (every-variable _ refl refl refl refl) (every-variable _ refl refl refl refl) (every-variable _ refl refl refl refl) (every-variable _ refl refl refl refl))
     (every-variable (λ k. (v : Variable) → get (exchanged x V2 k) v ≡ get x (swapVariable V2 k v))
-      (every-variable _ refl refl refl refl) (every-variable _ refl refl refl refl) (every-variable _ refl refl refl refl) (every-variable _ refl refl refl refl))
+    (every-variable _ refl refl refl refl) (every-variable _ refl refl refl refl) (every-variable _ refl refl refl refl) (every-variable _ refl refl refl refl))
     (every-variable (λ k. (v : Variable) → get (exchanged x V3 k) v ≡ get x (swapVariable V3 k v))
-      (every-variable _ refl refl refl refl) (every-variable _ refl refl refl refl) (every-variable _ refl refl refl refl) (every-variable _ refl refl refl refl))
+    (every-variable _ refl refl refl refl) (every-variable _ refl refl refl refl) (every-variable _ refl refl refl refl) (every-variable _ refl refl refl refl))
 
 pub exchanged-put : (x : Setting) (t : Bool) (j k v : Variable) → exchanged (put x v t) j k ≡ put (exchanged x j k) (swapVariable j k v) t
 exchanged-put x t =
     every-variable (λ j. (k v : Variable) → exchanged (put x v t) j k ≡ put (exchanged x j k) (swapVariable j k v) t)
     (every-variable (λ k. (v : Variable) → exchanged (put x v t) V0 k ≡ put (exchanged x V0 k) (swapVariable V0 k v) t)
-      (every-variable _ refl refl refl refl) (every-variable _ refl refl refl refl) (every-variable _ refl refl refl refl) (every-variable _ refl refl refl refl))
+    (every-variable _ refl refl refl refl) (every-variable _ refl refl refl refl) (every-variable _ refl refl refl refl) (every-variable _ refl refl refl refl))
     (every-variable (λ k. (v : Variable) → exchanged (put x v t) V1 k ≡ put (exchanged x V1 k) (swapVariable V1 k v) t)
-      (every-variable _ refl refl refl refl) (every-variable _ refl refl refl refl) (every-variable _ refl refl refl refl) (every-variable _ refl refl refl refl))
+    (every-variable _ refl refl refl refl) (every-variable _ refl refl refl refl) (every-variable _ refl refl refl refl) (every-variable _ refl refl refl refl))
     (every-variable (λ k. (v : Variable) → exchanged (put x v t) V2 k ≡ put (exchanged x V2 k) (swapVariable V2 k v) t)
-      (every-variable _ refl refl refl refl) (every-variable _ refl refl refl refl) (every-variable _ refl refl refl refl) (every-variable _ refl refl refl refl))
+    (every-variable _ refl refl refl refl) (every-variable _ refl refl refl refl) (every-variable _ refl refl refl refl) (every-variable _ refl refl refl refl))
     (every-variable (λ k. (v : Variable) → exchanged (put x v t) V3 k ≡ put (exchanged x V3 k) (swapVariable V3 k v) t)
-      (every-variable _ refl refl refl refl) (every-variable _ refl refl refl refl) (every-variable _ refl refl refl refl) (every-variable _ refl refl refl refl))
+    (every-variable _ refl refl refl refl) (every-variable _ refl refl refl refl) (every-variable _ refl refl refl refl) (every-variable _ refl refl refl refl))
 
 -- ---- values of exchanged and joined tables
 
@@ -202,8 +202,8 @@ cofactor-own f v s x t = value-cofactor f v s (put x v t) ∙ ap (value f) (put-
 pub cofactor-keeps : (f : ℕ) (v w : Variable) (s : Bool) → Free f w → Free (cofactor f v s) w
 cofactor-keeps f v w s h x t =
     elim (same-or-differ w v) [
-      inl e ↦ subst (λ (u : Variable). value (cofactor f v s) (put x u t) ≡ value (cofactor f v s) x) (sym e) (cofactor-own f v s x t)
-    | inr d ↦ value-cofactor f v s (put x w t) ∙ ap (value f) (put-commute x t s w v d) ∙ h (put x v s) t ∙ sym (value-cofactor f v s x)
+      | inl e ↦ subst (λ (u : Variable). value (cofactor f v s) (put x u t) ≡ value (cofactor f v s) x) (sym e) (cofactor-own f v s x t)
+      | inr d ↦ value-cofactor f v s (put x w t) ∙ ap (value f) (put-commute x t s w v d) ∙ h (put x v s) t ∙ sym (value-cofactor f v s x)
     ]
 
 pub swapped-moves : (f : ℕ) (j k v : Variable) → Free f (swapVariable j k v) → Free (swapped f j k) v
@@ -264,10 +264,10 @@ pub joined-code : (f : ℕ) (j k : Variable) → chosen (variable j) (cofactor f
 joined-code f j k =
     same-values (chosen (variable j) (cofactor f k true) (cofactor f k false)) (joined f j k) (chosen-lt (variable j) (cofactor f k true) (cofactor f k false)) (joined-lt f j k)
     (λ x.
-      value-chosen (variable j) (cofactor f k true) (cofactor f k false) x
-      ∙ ap (λ (t : Bool). cond t (value (cofactor f k true) x) (value (cofactor f k false) x)) (value-variable j x)
-      ∙ ap₂ (λ (s t : Bool). cond (get x j) s t) (value-cofactor f k true x) (value-cofactor f k false x)
-      ∙ by-value f x k (get x j) ∙ sym (value-joined f j k x))
+    value-chosen (variable j) (cofactor f k true) (cofactor f k false) x
+    ∙ ap (λ (t : Bool). cond t (value (cofactor f k true) x) (value (cofactor f k false) x)) (value-variable j x)
+    ∙ ap₂ (λ (s t : Bool). cond (get x j) s t) (value-cofactor f k true x) (value-cofactor f k false x)
+    ∙ by-value f x k (get x j) ∙ sym (value-joined f j k x))
 
 exchanged-other : (x : Setting) (j k : Variable) → put (put x k (get x j)) j (get x k) ≡ exchanged x j k
 exchanged-other x =
@@ -280,8 +280,8 @@ swapped-code f j k =
     let l = joined (cofactor f j false) j k in
     same-values (chosen (variable k) h l) (swapped f j k) (chosen-lt (variable k) h l) (swapped-lt f j k)
     (λ x.
-      let y = put x k (get x j) in
-      value-chosen (variable k) h l x
-      ∙ ap (λ (t : Bool). cond t (value h x) (value l x)) (value-variable k x)
-      ∙ ap₂ (λ (s t : Bool). cond (get x k) s t) (value-joined (cofactor f j true) j k x ∙ value-cofactor f j true y) (value-joined (cofactor f j false) j k x ∙ value-cofactor f j false y)
-      ∙ by-value f y j (get x k) ∙ ap (value f) (exchanged-other x j k) ∙ sym (value-swapped f j k x))
+    let y = put x k (get x j) in
+    value-chosen (variable k) h l x
+    ∙ ap (λ (t : Bool). cond t (value h x) (value l x)) (value-variable k x)
+    ∙ ap₂ (λ (s t : Bool). cond (get x k) s t) (value-joined (cofactor f j true) j k x ∙ value-cofactor f j true y) (value-joined (cofactor f j false) j k x ∙ value-cofactor f j false y)
+    ∙ by-value f y j (get x k) ∙ ap (value f) (exchanged-other x j k) ∙ sym (value-swapped f j k x))
