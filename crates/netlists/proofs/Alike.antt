@@ -35,7 +35,7 @@ module _ (r q : Row) where
   abbrev upToC : Bool
   upToC = upToB && eqb (r .c .number) (q .c .number)
 
-  made : r .table ≡ q .table → r .a .number ≡ q .a .number → r .b .number ≡ q .b .number → r .c .number ≡ q .c .number → r .d .number ≡ q .d .number → r ≡ q
+  pub made : r .table ≡ q .table → r .a .number ≡ q .a .number → r .b .number ≡ q .b .number → r .c .number ≡ q .c .number → r .d .number ≡ q .d .number → r ≡ q
   made t a b c d = let x = rowOf-self r in let y = rowOf-self q in cc
 
   pub same-row : sameRow r q ≡ true → r ≡ q

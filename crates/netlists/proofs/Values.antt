@@ -83,7 +83,7 @@ lone : (f : ℕ) → Free f V1 → Free f V2 → Free f V3 → atZero f ≡ fals
 lone f p q r z x true d h = one-left f p q r x ∙ one-bit f p q r z (x .a) (value f (alone true)) refl d
 lone f p q r z x false d h = one-left f p q r x ∙ ap (λ (a : Bool). value f (alone a)) (h refl) ∙ z ∙ sym (h refl)
 
-unused : (r : Row) → Normal r → (v : Variable) → nodeAt r v .number ≡ 0 → Free (r .table) v
+pub unused : (r : Row) → Normal r → (v : Variable) → nodeAt r v .number ≡ 0 → Free (r .table) v
 unused r h v e = depends-free (r .table) v (h .exact v ∙ ap (ltb 0) e)
 
 -- a row in normal form over no node or one has the value of that node, node 0 being false
