@@ -18,10 +18,11 @@ use Rattle.netlists.specs.declared.Row.{Row}
 use Rattle.netlists.specs.declared.Fanins.{Fanins}
 use Rattle.netlists.specs.declared.Form.{Form}
 use Rattle.netlists.specs.Netlists.{Assignment, settingUnder, rowUnder, faninsUnder}
-use Rattle.netlists.specs.Normal.{nodeAt, withTable}
-use Rattle.netlists.specs.Lawful.{Follows, Normal, Means}
+use Rattle.netlists.specs.Normal.{nodeAt, withTable, normal}
+use Rattle.netlists.specs.Lawful.{Follows, Normal, Means, FormOf}
 use Rattle.netlists.proofs.Values.{unused, row-same}
 use Rattle.netlists.proofs.Alike.{made}
+use Rattle.netlists.proofs.Shapes.{normal-means}
 
 -- ---- the assignment that gives a row's nodes the values of a setting
 
@@ -92,15 +93,15 @@ module _ (r : Row) (law : Normal r) where
       → (assign r x (nodeAt r v .number) ≡ get x v) ⊎ Free (r .table) v
   used-or-free x v h =
       elim (cases-lt 0 (nodeAt r v .number)) [
-        inl l ↦ inl (h l)
-      | inr l ↦ let z : nodeAt r v .number ≡ 0 = omega arith in inr (unused r law v z)
+        | inl l ↦ inl (h l)
+        | inr l ↦ let z : nodeAt r v .number ≡ 0 = omega arith in inr (unused r law v z)
       ]
 
   pub assign-value : (x : Setting) → rowUnder (assign r x) r ≡ value (r .table) x
   assign-value x =
       sym (same-but-free (r .table) x (settingUnder (assign r x) r)
-        (every-variable (λ v. (get (settingUnder (assign r x) r) v ≡ get x v) ⊎ Free (r .table) v)
-          (used-or-free x V0 (assign-a x)) (used-or-free x V1 (assign-b x)) (used-or-free x V2 (assign-c x)) (used-or-free x V3 (assign-d x))))
+      (every-variable (λ v. (get (settingUnder (assign r x) r) v ≡ get x v) ⊎ Free (r .table) v)
+      (used-or-free x V0 (assign-a x)) (used-or-free x V1 (assign-b x)) (used-or-free x V2 (assign-c x)) (used-or-free x V3 (assign-d x))))
 
 -- another node does not see the value at v
 agree : (r : Row) (x : Setting) (t : Bool) (m : ℕ) (v : Variable) → (m ≡ nodeAt r v .number → ⊥) → assign r (put x v t) m ≡ assign r x m
@@ -124,14 +125,14 @@ Among n q = (n ≡ q .a .number) ⊎ ((n ≡ q .b .number) ⊎ ((n ≡ q .c .num
 among : (n : ℕ) (q : Row) → Among n q ⊎ ((w : Variable) → nodeAt q w .number ≡ n → ⊥)
 among n q =
     elim (cases-eq n (q .a .number)) [
-      inl e ↦ inl (inl e)
-    | inr p ↦ elim (cases-eq n (q .b .number)) [
-        inl e ↦ inl (inr (inl e))
-      | inr s ↦ elim (cases-eq n (q .c .number)) [
-          inl e ↦ inl (inr (inr (inl e)))
-        | inr t ↦ elim (cases-eq n (q .d .number)) [
-            inl e ↦ inl (inr (inr (inr e)))
-          | inr u ↦ inr (every-variable (λ w. nodeAt q w .number ≡ n → ⊥) (λ e. p (sym e)) (λ e. s (sym e)) (λ e. t (sym e)) (λ e. u (sym e)))
+      | inl e ↦ inl (inl e)
+      | inr p ↦ elim (cases-eq n (q .b .number)) [
+        | inl e ↦ inl (inr (inl e))
+        | inr s ↦ elim (cases-eq n (q .c .number)) [
+          | inl e ↦ inl (inr (inr (inl e)))
+          | inr t ↦ elim (cases-eq n (q .d .number)) [
+            | inl e ↦ inl (inr (inr (inr e)))
+            | inr u ↦ inr (every-variable (λ w. nodeAt q w .number ≡ n → ⊥) (λ e. p (sym e)) (λ e. s (sym e)) (λ e. t (sym e)) (λ e. u (sym e)))
           ]
         ]
       ]
@@ -141,14 +142,14 @@ among n q =
 found-again : (r q : Row) → Normal r → Same r q → (v : Variable) → 0 < nodeAt r v .number → Among (nodeAt r v .number) q
 found-again r q law same v h =
     elim (among (nodeAt r v .number) q) [
-      inl i ↦ i
-    | inr none ↦
-      let free : Free (r .table) v = λ x t.
-        sym (assign-value r law (put x v t)) ∙ same (assign r (put x v t)) refl
-        ∙ row-same (assign r (put x v t)) (assign r x) q (λ w. agree r x t (nodeAt q w .number) v (none w))
-        ∙ sym (same (assign r x) refl) ∙ assign-value r law x
-      in
-      absurd (false≢true (sym (free-depends (r .table) v free) ∙ law .exact v ∙ lt-ltb 0 (nodeAt r v .number) h))
+      | inl i ↦ i
+      | inr none ↦
+          let free : Free (r .table) v = λ x t.
+          sym (assign-value r law (put x v t)) ∙ same (assign r (put x v t)) refl
+          ∙ row-same (assign r (put x v t)) (assign r x) q (λ w. agree r x t (nodeAt q w .number) v (none w))
+          ∙ sym (same (assign r x) refl) ∙ assign-value r law x
+          in
+          absurd (false≢true (sym (free-depends (r .table) v free) ∙ law .exact v ∙ lt-ltb 0 (nodeAt r v .number) h))
     ]
 
 -- ---- nodes ascend, so what is among them lies past the places before it
@@ -205,17 +206,17 @@ module _ (r q : Row) (law : Normal r) (rule : Normal q) (same : Same r q) where
   same-c =
       meet (r .c .number) (q .c .number)
       (λ h. let e = same-a in let f = same-b in let p = c-used r law h in
-        past-b q rule (r .c .number) h (omega (arith, p .1)) (omega (arith, p .2)) (found-again r q law same V2 h))
+      past-b q rule (r .c .number) h (omega (arith, p .1)) (omega (arith, p .2)) (found-again r q law same V2 h))
       (λ h. let e = same-a in let f = same-b in let p = c-used q rule h in
-        past-b r law (q .c .number) h (omega (arith, p .1)) (omega (arith, p .2)) (found-again q r rule back V2 h))
+      past-b r law (q .c .number) h (omega (arith, p .1)) (omega (arith, p .2)) (found-again q r rule back V2 h))
 
   same-d : r .d .number ≡ q .d .number
   same-d =
       meet (r .d .number) (q .d .number)
       (λ h. let e = same-a in let f = same-b in let g = same-c in let p = d-used r law h in
-        past-c q rule (r .d .number) h (omega (arith, p .1)) (omega (arith, p .2)) (omega (arith, p .3)) (found-again r q law same V3 h))
+      past-c q rule (r .d .number) h (omega (arith, p .1)) (omega (arith, p .2)) (omega (arith, p .3)) (found-again r q law same V3 h))
       (λ h. let e = same-a in let f = same-b in let g = same-c in let p = d-used q rule h in
-        past-c r law (q .d .number) h (omega (arith, p .1)) (omega (arith, p .2)) (omega (arith, p .3)) (found-again q r rule back V3 h))
+      past-c r law (q .d .number) h (omega (arith, p .1)) (omega (arith, p .2)) (omega (arith, p .3)) (found-again q r rule back V3 h))
 
   moved : q ≡ withTable r (q .table)
   moved = made q (withTable r (q .table)) refl (sym same-a) (sym same-b) (sym same-c) (sym same-d)
@@ -255,5 +256,8 @@ unique-form f s g h p q =
     let both = λ (φ : Assignment) (z : φ 0 ≡ false). p .means φ z ∙ sym (q .means φ z) in
     let i = inverted-false (g .inverted) (h .inverted) (ap (inverted (g .inverted)) (sym (at-nothing (g .row) (p .lawful))) ∙ both (λ n. false) refl ∙ ap (inverted (h .inverted)) (at-nothing (h .row) (q .lawful))) in
     let e = unique-row (g .row) (h .row) (p .lawful) (q .lawful)
-      (λ φ z. flip-back (h .inverted) (rowUnder φ (g .row)) (rowUnder φ (h .row)) (ap (λ (b : Bool). inverted b (rowUnder φ (g .row))) (sym i) ∙ both φ z)) in
+    (λ φ z. flip-back (h .inverted) (rowUnder φ (g .row)) (rowUnder φ (h .row)) (ap (λ (b : Bool). inverted b (rowUnder φ (g .row))) (sym i) ∙ both φ z)) in
     ap₂ (λ (r : Row) (b : Bool). record { row = r; inverted = b }) e i
+
+pub normal-form-of : (f : ℕ) (s : Fanins) → f < 65536 → FormOf f s (normal f s)
+normal-form-of f s h = record { is = normal-means f s h; only = λ g p. unique-form f s g (normal f s) p (normal-means f s h) }

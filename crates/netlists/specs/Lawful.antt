@@ -35,6 +35,11 @@ pub record Means (f : ℕ) (s : Fanins) (g : Form) : Type 0 where
   pub lawful : Normal (g .row)
   pub means : (φ : Assignment) → φ 0 ≡ false → inverted (g .inverted) (rowUnder φ (g .row)) ≡ value f (faninsUnder φ s)
 
+-- g is the one form that f over the signals has
+pub record FormOf (f : ℕ) (s : Fanins) (g : Form) : Type 0 where
+  pub is : Means f s g
+  pub only : (h : Form) → Means f s h → h ≡ g
+
 -- a row of two or more nodes, all before node n, whose table is owned
 pub record LawfulRow (o : Ownership) (n : ℕ) (r : Row) : Type 0 where
   pub shape : Normal r

@@ -18,4 +18,4 @@ abbrev pub Majority-of-opposites : Type 0
 Majority-of-opposites =
     (o : Ownership) (places : ℕ)
     → afterPlace o places (empty 2) 0xE8E8 (record { a = signalOf nodeA false; b = signalOf nodeA true; c = signalOf nodeB false; d = noSignal })
-      ≡ Ok (record { signal = signalOf nodeB false; netlist = empty 2 })
+    ≡ Ok (record { signal = signalOf nodeB false; netlist = empty 2 })

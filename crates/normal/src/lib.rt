@@ -2,7 +2,7 @@
 ghost use mathlib.Core.Path.{_≡_};
 ghost use Rattle.tables.specs.Swaps.{swapped, joined};
 ghost use Rattle.netlists.specs.Normal.{none, nodeAt, withNode, withTable, turned, entered, grounded, unified, trimmed, precedes, ordered, allGrounded, allUnified, allTrimmed, allOrdered, reduced, settled, normal};
-ghost use Rattle.netlists.specs.Lawful.{Means};
+ghost use Rattle.netlists.specs.Lawful.{FormOf};
 use netlists::Fanins;
 use netlists::Form;
 use netlists::Node;
@@ -213,10 +213,11 @@ fn settle(row: Row) -> Form
     }
 }
 
-/// A table over four signals, as a table over the nodes that it depends on: ascending, and false at index 0.
+/// A table over four signals, as a table over the nodes that it depends on: ascending, and false at index 0. It is the only
+/// such form of that function of the nodes.
 pub fn normal_form(f: Table, fanins: Fanins) -> Form
     ensures is { λ r. ⌜ r ≡ normal f fanins ⌝ }
-    ensures means { λ r. ⌜ Means f fanins r ⌝ }
+    ensures means { λ r. ⌜ FormOf f fanins r ⌝ }
 {
     settle(order_all(trim_all(unify_all(ground_all(enter(f, fanins))))))
 }
