@@ -5,3 +5,4 @@ pub mod Placing
 pub mod Lawful
 pub mod Meaning
 pub mod Worked
+pub mod Copies
