@@ -49,7 +49,7 @@ pub record Along (keep : ℕ → Bool) (n : Netlist) (k : ℕ) (c : Copy) : Type
 
 -- ---- one row
 
-module _ (o : Ownership) (places : ℕ) (held : ℕ) (n : Netlist) (law : Lawful o held n) (keep : ℕ → Bool)
+module _ (o : Ownership) (places : ℕ) (size : ℕ) (n : Netlist) (law : Lawful o size n) (keep : ℕ → Bool)
     (closed : (k : ℕ) → k < length (n .rows) → keep (n .inputs + 1 + k) ≡ true → (v : Variable) → Open keep (n .inputs) (nodeAt (getD (n .rows) k noRow) v .number)) where
   abbrev i : ℕ
   i = n .inputs
@@ -192,3 +192,40 @@ module _ (o : Ownership) (places : ℕ) (held : ℕ) (n : Netlist) (law : Lawful
             elim op [ inl a ↦ absurd (omega arith) | inr e ↦ absurd (true≢false (sym e ∙ ap keep (sym s) ∙ left)) ]
           ];
       }
+
+  step : keptBefore keep i (length (n .rows)) ≤ places → (k : ℕ) → k < length (n .rows) → (c : Copy) → Along keep n k c
+      → (d : Copy) × (copyRow o places keep (row k) c ≡ Ok d) × Along keep n (suc k) d
+  step room k inside c here =
+      elim (cases-bool (keep (i + 1 + k))) [
+        inl kept ↦ (after k inside c here kept, placed k inside c here kept room, along-kept k inside c here kept)
+      | inr left ↦ (skipped c, skips k inside c here left, along-skipped k inside c here left)
+      ]
+
+  -- ---- the rows from k on
+
+  pub walk : keptBefore keep i (length (n .rows)) ≤ places → (rs : List Row) (k : ℕ) (c : Copy) → ((j : ℕ) → getD rs j noRow ≡ row (k + j)) → k + length rs ≡ length (n .rows) → Along keep n k c
+      → (d : Copy) × (copyRows o places keep rs c ≡ Ok d) × Along keep n (length (n .rows)) d
+  unfolding copyRows
+  walk room [] k c at e here = (c, refl, subst (λ (x : ℕ). Along keep n x c) (omega arith) here)
+  walk room (r ∷ rs) k c at e here =
+      let inside : k < length (n .rows) = omega arith in
+      let zero-at : r ≡ row k = at 0 ∙ ap row (omega arith) in
+      let s = step room k inside c here in
+      let w = walk room rs (suc k) (s .0) (λ j. at (suc j) ∙ ap row (omega arith)) (omega arith) (s .2) in
+      (w .0, ap (λ (x : Row). andThen (copyRow o places keep x c) (copyRows o places keep rs)) zero-at ∙ ap (λ (x : Result Copy Refusal). andThen x (copyRows o places keep rs)) (s .1) ∙ w .1, w .2)
+
+  begin : Along keep n 0 (fresh i)
+  unfolding fresh
+  begin = record {
+    same-inputs = refl;
+    no-outputs = refl;
+    count = refl;
+    rows-at = λ j h e. absurd (not-suc-le-zero h);
+    nodes = length-map-counting plain 0 (i + 1) ∙ omega arith;
+    signals-at = λ m h op.
+      getD-map-counting plain 0 (i + 1) m m noSignal (omega arith) (omega arith) ∙ ap plain (sym (of-input keep i m (omega arith)));
+  }
+
+  -- all rows that are kept, from an empty network
+  pub whole : keptBefore keep i (length (n .rows)) ≤ places → (d : Copy) × (copyRows o places keep (n .rows) (fresh i) ≡ Ok d) × Along keep n (length (n .rows)) d
+  whole room = walk room (n .rows) 0 (fresh i) (λ j. ap row (omega arith)) (omega arith) begin
