@@ -1,5 +1,5 @@
 -- Netlists placed row by row into another, and the sweep.
-use Prim.Native.Nat.{ℕ, zero, suc, _+_}
+use Prim.Native.Nat.{ℕ, zero, suc, _+_, _<_, _≤_}
 use mathlib.Core.Path.{_≡_}
 use mathlib.Core.Bool.{Bool, true, false, cond, _||_}
 use mathlib.Core.List.{List, [], _∷_, _++_, map}
@@ -15,7 +15,7 @@ use Rattle.netlists.specs.declared.Signal.{Signal}
 use Rattle.netlists.specs.declared.Row.{Row}
 use Rattle.netlists.specs.declared.Fanins.{Fanins}
 use Rattle.netlists.specs.declared.Refusal.{Refusal}
-use Rattle.netlists.specs.Netlists.{Netlist}
+use Rattle.netlists.specs.Netlists.{Netlist, signalValue}
 use Rattle.netlists.specs.Placing.{noSignal, signalOf, Placing, afterPlace, empty, afterOutput}
 
 -- a netlist under way, and the signal in it for each node of another, from node 0 on
@@ -104,3 +104,15 @@ copied o places n = andThen (copyRows o places (λ k. true) (n .rows) (fresh (n 
 -- the rows of n that some output reaches, in order, into an empty network
 unfoldable pub swept : Ownership → ℕ → Netlist → Result Netlist Refusal
 swept o places n = andThen (copyRows o places (reached n) (n .rows) (fresh (n .inputs))) (copyOutputs (n .outputs))
+
+-- how many rows some output reaches
+abbrev pub reachedRows : Netlist → ℕ
+reachedRows n = keptBefore (reached n) (n .inputs) (length (n .rows))
+
+-- m has the outputs of n, with the same values for every setting of the inputs, and as many rows as outputs of n reach
+pub record Swept (n m : Netlist) : Type 0 where
+  pub same-inputs : m .inputs ≡ n .inputs
+  pub same-outputs : length (m .outputs) ≡ length (n .outputs)
+  pub same-values : (xs : List Bool) → length xs ≡ n .inputs → (k : ℕ) → k < length (n .outputs)
+      → signalValue m xs (getD (m .outputs) k noSignal) ≡ signalValue n xs (getD (n .outputs) k noSignal)
+  pub gates : length (m .rows) ≡ reachedRows n
