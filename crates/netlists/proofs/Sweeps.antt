@@ -97,3 +97,182 @@ module _ (o : Ownership) (size : ℕ) (n : Netlist) (law : Lawful o size n) (kee
   -- every node that is kept has its value
   pub copy-value : (m : ℕ) → m ≤ i + length (n .rows) → Open keep i m → now (renumber keep i m) ≡ old m
   copy-value m h op = value-upto (length (n .rows)) (omega arith) m (omega arith) op
+
+-- ---- outputs
+
+abbrev relabelSignal : (ℕ → ℕ) → Signal → Signal
+relabelSignal ρ s = signalOf (record { number = ρ (s .node .number) }) (s .inverted)
+
+abbrev withOutputs : Netlist → List Signal → Netlist
+withOutputs m ss = record { inputs = m .inputs; rows = m .rows; outputs = ss }
+
+inverted-plain : (b : Bool) → inverted b false ≡ b
+inverted-plain true = refl
+inverted-plain false = refl
+
+through-is : (c : Copy) (ρ : ℕ → ℕ) (s : Signal) → getD (c .signals) (s .node .number) noSignal ≡ plain (ρ (s .node .number)) → through c s ≡ relabelSignal ρ s
+through-is c ρ s e =
+    ap (λ (t : Signal). signalOf (t .node) (inverted (s .inverted) (t .inverted))) e
+    ∙ ap (signalOf (record { number = ρ (s .node .number) })) (inverted-plain (s .inverted))
+
+outs : (sig : List Signal) (ρ : ℕ → ℕ) (ss : List Signal) (m : Netlist)
+    → ((k : ℕ) → k < length ss → (getD sig (getD ss k noSignal .node .number) noSignal ≡ plain (ρ (getD ss k noSignal .node .number))) × (ρ (getD ss k noSignal .node .number) ≤ m .inputs + length (m .rows)))
+    → length (m .outputs) + length ss ≤ 32
+    → copyOutputs ss (record { netlist = m; signals = sig }) ≡ Ok (withOutputs m (m .outputs ++ map (relabelSignal ρ) ss))
+unfolding copyOutputs
+outs sig ρ [] m h few = ap (λ (os : List Signal). Ok (withOutputs m os)) (sym (append-nil (m .outputs)))
+outs sig ρ (s ∷ ss) m h few =
+    let c : Copy = record { netlist = m; signals = sig } in
+    let t = relabelSignal ρ s in
+    let p = h 0 (omega arith) in
+    let room : length (m .outputs) < 32 = omega arith in
+    let e = length-push (m .outputs) t in
+    ap (λ (x : Signal). andThen (afterOutput m x) (λ y. copyOutputs ss (record { netlist = y; signals = sig }))) (through-is c ρ s (p .0))
+    ∙ ap (λ (x : Result Netlist Refusal). andThen x (λ y. copyOutputs ss (record { netlist = y; signals = sig }))) (output-few m t (le-leb (ρ (s .node .number)) (m .inputs + length (m .rows)) (p .1)) room)
+    ∙ outs sig ρ ss (withOutput m t) (λ k l. h (suc k) (omega arith)) (omega arith)
+    ∙ ap (λ (os : List Signal). Ok (withOutputs m os)) (append-assoc (m .outputs) (t ∷ []) (map (relabelSignal ρ) ss))
+
+-- ---- a copy of rows and outputs
+
+module _ (o : Ownership) (places size : ℕ) (n : Netlist) (law : Lawful o size n) (keep : ℕ → Bool)
+    (closed : (k : ℕ) → k < length (n .rows) → keep (n .inputs + 1 + k) ≡ true → (v : Variable) → Open keep (n .inputs) (nodeAt (getD (n .rows) k noRow) v .number))
+    (outer : (k : ℕ) → k < length (n .outputs) → Open keep (n .inputs) (getD (n .outputs) k noSignal .node .number))
+    (room : keptBefore keep (n .inputs) (length (n .rows)) ≤ places) where
+  abbrev ρ : ℕ → ℕ
+  ρ = renumber keep (n .inputs)
+
+  abbrev made : Copy
+  made = whole o places size n law keep closed room .0
+
+  rows-made : copyRows o places keep (n .rows) (fresh (n .inputs)) ≡ Ok made
+  rows-made = whole o places size n law keep closed room .1
+
+  done : Along keep n (length (n .rows)) made
+  done = whole o places size n law keep closed room .2
+
+  abbrev result : Netlist
+  result = record { inputs = n .inputs; rows = made .netlist .rows; outputs = map (relabelSignal ρ) (n .outputs) }
+
+  there : (k : ℕ) → k < length (n .outputs) → getD (n .outputs) k noSignal .node .number ≤ n .inputs + length (n .rows)
+  there k h = leb-true (getD (n .outputs) k noSignal .node .number) (n .inputs + length (n .rows)) (law .outputs-there k h)
+
+  outputs-made : copyOutputs (n .outputs) made ≡ Ok result
+  outputs-made =
+      let i = n .inputs in
+      let s = done .same-inputs in
+      let q = done .count in
+      let z = done .no-outputs in
+      let few : length (made .netlist .outputs) + length (n .outputs) ≤ 32 = subst (λ (os : List Signal). length os + length (n .outputs) ≤ 32) (sym z) (let f = law .few-outputs in omega arith) in
+      outs (made .signals) ρ (n .outputs) (made .netlist)
+        (λ k h.
+          let m = getD (n .outputs) k noSignal .node .number in
+          let t = there k h in
+          let b : m < i + 1 + length (n .rows) = omega arith in
+          let l = order-kept keep i m (i + 1 + length (n .rows)) b (outer k h) in
+          let e = of-row keep i (length (n .rows)) in
+          (done .signals-at m b (outer k h), omega (arith, l, e, s, q)))
+        few
+      ∙ ap₂ (λ (x : ℕ) (os : List Signal). Ok (record { inputs = x; rows = made .netlist .rows; outputs = os ++ map (relabelSignal ρ) (n .outputs) })) s z
+
+  all-made : andThen (copyRows o places keep (n .rows) (fresh (n .inputs))) (copyOutputs (n .outputs)) ≡ Ok result
+  all-made = ap (λ (x : Result Copy Refusal). andThen x (copyOutputs (n .outputs))) rows-made ∙ outputs-made
+
+  output-value : (xs : List Bool) → length xs ≡ n .inputs → (k : ℕ) → k < length (n .outputs)
+      → signalValue result xs (getD (result .outputs) k noSignal) ≡ signalValue n xs (getD (n .outputs) k noSignal)
+  output-value xs l k h =
+      let s = getD (n .outputs) k noSignal in
+      ap (signalValue result xs) (getD-map (relabelSignal ρ) (n .outputs) k noSignal noSignal h)
+      ∙ ap (inverted (s .inverted)) (copy-value o size n law keep closed made done xs l (s .node .number) (there k h) (outer k h))
+
+-- ---- reached rows have reached nodes
+
+four-right : (a b c d e : Bool) → e ≡ true → (a || (b || (c || (d || e)))) ≡ true
+four-right a b c d e h = or-right a (b || (c || (d || e))) (or-right b (c || (d || e)) (or-right c (d || e) (or-right d e h)))
+
+claim-keeps : (m k : ℕ) (r : Row) (ws : List ℕ) → has m ws ≡ true → has m (claim k r ws) ≡ true
+unfolding claim
+claim-keeps m k r ws h = go (has k ws)
+  where
+    go : (b : Bool) → has m (elim b [ true ↦ nodesOf r ++ ws | false ↦ ws ]) ≡ true
+    go true = four-right (eqb m (r .a .number)) (eqb m (r .b .number)) (eqb m (r .c .number)) (eqb m (r .d .number)) (has m ws) h
+    go false = h
+
+claim-new : (m k : ℕ) (r : Row) (ws : List ℕ) → ((v : Variable) → nodeAt r v .number < m) → has m (claim k r ws) ≡ true → has m ws ≡ true
+unfolding claim
+claim-new m k r ws early h = go (has k ws) h
+  where
+    other : (x : ℕ) → x < m → (rest : Bool) → (eqb m x || rest) ≡ true → rest ≡ true
+    other x l rest e = elim (or-cases (eqb m x) rest e) [ inl q ↦ let p = eqb-true m x q in absurd (omega arith) | inr q ↦ q ]
+    go : (b : Bool) → has m (elim b [ true ↦ nodesOf r ++ ws | false ↦ ws ]) ≡ true → has m ws ≡ true
+    go true e =
+        let w = has m ws in
+        let d = eqb m (r .d .number) || w in
+        let c = eqb m (r .c .number) || d in
+        let b = eqb m (r .b .number) || c in
+        other (r .d .number) (early V3) w (other (r .c .number) (early V2) d (other (r .b .number) (early V1) c (other (r .a .number) (early V0) b e)))
+    go false e = e
+
+claim-nodes : (k : ℕ) (r : Row) (ws : List ℕ) → has k ws ≡ true → (v : Variable) → has (nodeAt r v .number) (claim k r ws) ≡ true
+unfolding claim
+claim-nodes k r ws h v = subst (λ (b : Bool). has (nodeAt r v .number) (elim b [ true ↦ nodesOf r ++ ws | false ↦ ws ]) ≡ true) (sym h) (go v)
+  where
+    here : (m : ℕ) (rest : Bool) → (eqb m m || rest) ≡ true
+    here m rest = or-left (eqb m m) rest (eq-eqb m m refl)
+    go : (v : Variable) → has (nodeAt r v .number) (nodesOf r ++ ws) ≡ true
+    go V0 = here (r .a .number) _
+    go V1 = or-right (eqb (r .b .number) (r .a .number)) _ (here (r .b .number) _)
+    go V2 = or-right (eqb (r .c .number) (r .a .number)) _ (or-right (eqb (r .c .number) (r .b .number)) _ (here (r .c .number) _))
+    go V3 = or-right (eqb (r .d .number) (r .a .number)) _ (or-right (eqb (r .d .number) (r .b .number)) _ (or-right (eqb (r .d .number) (r .c .number)) _ (here (r .d .number) _)))
+
+claims-keeps : (m b : ℕ) (rs : List Row) (ws : List ℕ) → has m ws ≡ true → has m (claims b rs ws) ≡ true
+unfolding claims
+claims-keeps m b [] ws h = h
+claims-keeps m b (r ∷ rs) ws h = claim-keeps m b r (claims (suc b) rs ws) (claims-keeps m (suc b) rs ws h)
+
+claims-nodes : (rs : List Row) (b : ℕ) (ws : List ℕ) → ((k : ℕ) → k < length rs → (v : Variable) → nodeAt (getD rs k noRow) v .number < b + k)
+    → (k : ℕ) → k < length rs → has (b + k) (claims b rs ws) ≡ true → (v : Variable) → has (nodeAt (getD rs k noRow) v .number) (claims b rs ws) ≡ true
+unfolding claims
+claims-nodes [] b ws early k h e v = absurd (not-suc-le-zero h)
+claims-nodes (r ∷ rs) b ws early zero h e v =
+    let w = claims (suc b) rs ws in
+    let z : b + 0 ≡ b = omega arith in
+    let f = early 0 h in
+    claim-nodes b r w (claim-new b b r w (λ u. subst (λ (x : ℕ). nodeAt r u .number < x) z (f u)) (subst (λ (x : ℕ). has x (claim b r w) ≡ true) z e)) v
+claims-nodes (r ∷ rs) b ws early (suc k) h e v =
+    let w = claims (suc b) rs ws in
+    let z : b + suc k ≡ suc b + k = omega arith in
+    let f = early 0 (omega arith) in
+    claim-keeps (nodeAt (getD rs k noRow) v .number) b r w
+    (claims-nodes rs (suc b) ws (λ j l u. let g = early (suc j) (omega arith) u in omega (arith, g)) k (le-of-suc-le-suc h)
+      (claim-new (suc b + k) b r w (λ u. let g = f u in omega (arith, g)) (subst (λ (x : ℕ). has x (claim b r w) ≡ true) z e)) v)
+
+output-has : (ss : List Signal) (k : ℕ) → k < length ss → has (getD ss k noSignal .node .number) (outputNodes ss) ≡ true
+unfolding outputNodes
+output-has [] k h = absurd (not-suc-le-zero h)
+output-has (s ∷ ss) zero h = or-left (eqb (s .node .number) (s .node .number)) _ (eq-eqb (s .node .number) (s .node .number) refl)
+output-has (s ∷ ss) (suc k) h = or-right (eqb (getD ss k noSignal .node .number) (s .node .number)) _ (output-has ss k (le-of-suc-le-suc h))
+
+reached-closed : (o : Ownership) (size : ℕ) (n : Netlist) → Lawful o size n → (k : ℕ) → k < length (n .rows) → reached n (n .inputs + 1 + k) ≡ true → (v : Variable)
+    → Open (reached n) (n .inputs) (nodeAt (getD (n .rows) k noRow) v .number)
+unfolding reached
+reached-closed o size n law k h e v = inr (claims-nodes (n .rows) (n .inputs + 1) (outputNodes (n .outputs)) (λ j l. law .rows-lawful j l .earlier) k h e v)
+
+reached-outer : (n : Netlist) (k : ℕ) → k < length (n .outputs) → Open (reached n) (n .inputs) (getD (n .outputs) k noSignal .node .number)
+unfolding reached
+reached-outer n k h =
+    inr (claims-keeps (getD (n .outputs) k noSignal .node .number) (n .inputs + 1) (n .rows) (outputNodes (n .outputs)) (output-has (n .outputs) k h))
+
+-- ---- the sweep, and the copy of a whole netlist
+
+-- the sweep of a lawful netlist is accepted, keeps every output's value and has as many rows as were reached
+pub sweep-swept : (o : Ownership) (places size : ℕ) (n : Netlist) → Lawful o size n → reachedRows n ≤ places → (m : Netlist) × (swept o places n ≡ Ok m) × Swept n m
+unfolding swept
+sweep-swept o places size n law room =
+    let closed = reached-closed o size n law in
+    let outer = reached-outer n in
+    (result o places size n law (reached n) closed outer room, all-made o places size n law (reached n) closed outer room, record {
+      same-inputs = refl;
+      same-outputs = length-map (n .outputs) (relabelSignal (renumber (reached n) (n .inputs)));
+      same-values = output-value o places size n law (reached n) closed outer room;
+      gates = done o places size n law (reached n) closed outer room .count;
+    })
