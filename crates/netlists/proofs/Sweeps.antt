@@ -28,6 +28,7 @@ use Rattle.netlists.specs.Placing.{isThere, noRow, noSignal, signalOf, withOut
 use Rattle.netlists.specs.Lawful.{LawfulRow, Lawful}
 use Rattle.netlists.specs.Copies.{Copy, signalIn, andThen, copyRow, copyRows, through, copyOutputs, fresh, has, nodesOf, claim, claims, outputNodes, reached, keptBefore, copied, swept, reachedRows, Swept}
 use Rattle.netlists.proofs.Values.{values-prefix, row-value}
+use Rattle.netlists.proofs.Alike.{made as alike}
 use Rattle.netlists.proofs.Ways.{output-few}
 use Rattle.netlists.proofs.Renumber.{rank-lt, renumber, Open, of-input, of-row, order-kept, relabel}
 use Rattle.netlists.proofs.Copies.{plain, Along, whole}
@@ -276,3 +277,64 @@ sweep-swept o places size n law room =
       same-values = output-value o places size n law (reached n) closed outer room;
       gates = done o places size n law (reached n) closed outer room .count;
     })
+
+-- ---- where every row is kept, the numbers stay
+
+abbrev every : ℕ → Bool
+every k = true
+
+rank-every : (i k : ℕ) → keptBefore every i k ≡ k
+rank-every i zero = refl
+rank-every i (suc k) = let e = rank-every i k in omega arith
+
+renumber-every : (i m : ℕ) → renumber every i m ≡ m
+renumber-every i m =
+    elim (cases-lt i m) [
+      inl l ↦
+      let q : m ≡ i + 1 + (m - (i + 1)) = omega arith in
+      let e = rank-every i (m - (i + 1)) in
+      ap (renumber every i) q ∙ of-row every i (m - (i + 1)) ∙ omega arith
+    | inr l ↦ of-input every i m l
+    ]
+
+relabel-every : (i : ℕ) (r : Row) → relabel every i r ≡ r
+relabel-every i r =
+    let e = renumber-every i in
+    alike (relabel every i r) r refl (e (r .a .number)) (e (r .b .number)) (e (r .c .number)) (e (r .d .number))
+
+signals-every : (i : ℕ) (ss : List Signal) → map (relabelSignal (renumber every i)) ss ≡ ss
+signals-every i [] = refl
+signals-every i (s ∷ ss) =
+    ap₂ (λ (x : Signal) (xs : List Signal). x ∷ xs) (ap (λ (k : ℕ). signalOf (record { number = k }) (s .inverted)) (renumber-every i (s .node .number))) (signals-every i ss)
+
+module _ (o : Ownership) (places size : ℕ) (n : Netlist) (law : Lawful o size n) (room : length (n .rows) ≤ places) where
+  closed : (k : ℕ) → k < length (n .rows) → every (n .inputs + 1 + k) ≡ true → (v : Variable) → Open every (n .inputs) (nodeAt (getD (n .rows) k noRow) v .number)
+  closed k h e v = inr refl
+
+  outer : (k : ℕ) → k < length (n .outputs) → Open every (n .inputs) (getD (n .outputs) k noSignal .node .number)
+  outer k h = inr refl
+
+  fits : keptBefore every (n .inputs) (length (n .rows)) ≤ places
+  fits = let e = rank-every (n .inputs) (length (n .rows)) in omega arith
+
+  abbrev copy : Netlist
+  copy = result o places size n law every closed outer fits
+
+  finished : Along every n (length (n .rows)) (made o places size n law every closed outer fits)
+  finished = done o places size n law every closed outer fits
+
+  same-rows : copy .rows ≡ n .rows
+  same-rows =
+      ext-getD noRow (copy .rows) (n .rows) (finished .count ∙ rank-every (n .inputs) (length (n .rows)))
+      (λ k h.
+        let q = finished .count in
+        let e = rank-every (n .inputs) (length (n .rows)) in
+        let l : k < length (n .rows) = omega arith in
+        ap (λ (x : ℕ). getD (copy .rows) x noRow) (sym (rank-every (n .inputs) k)) ∙ finished .rows-at k l refl ∙ relabel-every (n .inputs) (getD (n .rows) k noRow))
+
+  -- a netlist placed row by row into an empty network comes out as itself
+  pub copy-itself : copied o places n ≡ Ok n
+  unfolding copied
+  copy-itself =
+      all-made o places size n law every closed outer fits
+      ∙ ap₂ (λ (rs : List Row) (os : List Signal). Ok (record { inputs = n .inputs; rows = rs; outputs = os })) same-rows (signals-every (n .inputs) (n .outputs))
