@@ -9,9 +9,10 @@ ghost use Rattle.tables.specs.Bits.{inverted};
 ghost use Rattle.tables.specs.Settings.{Setting, get};
 ghost use Rattle.tables.specs.Tables.{value};
 ghost use Rattle.classes.specs.Orders.{numbered, at, orderAt};
-ghost use Rattle.classes.specs.Images.{image, maskAt, readFrom};
+ghost use Rattle.classes.specs.Images.{image, maskAt, placeIn, readFrom};
 use tables::Table;
 use tables::Variable;
+use tables::VariablePartialEq;
 use tables::compose;
 use tables::invert;
 use tables::variable_table;
@@ -211,6 +212,21 @@ fn numbered_variable(n: u8) -> Variable
 }
 
 impl Order {
+    /// The place at which the order has `v`.
+    pub fn place_of(self, v: Variable) -> Variable
+        ensures { λ r. ⌜ r ≡ placeIn self v ⌝ }
+    {
+        if self.place(Variable::V0) == v {
+            Variable::V0
+        } else if self.place(Variable::V1) == v {
+            Variable::V1
+        } else if self.place(Variable::V2) == v {
+            Variable::V2
+        } else {
+            Variable::V3
+        }
+    }
+
     /// The variable at place `k`.
     pub fn place(self, k: Variable) -> Variable
         ensures { λ r. ⌜ r ≡ at self k ⌝ }

@@ -1,3 +1,4 @@
 pub mod Bitwise
 pub mod Laws
 pub mod Every
+pub mod Support
