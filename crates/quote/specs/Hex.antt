@@ -3,7 +3,7 @@ use Prim.Native.Nat.{ℕ, _+_, _-_, _*_}
 use mathlib.Core.Bool.{Bool, true, false, cond}
 use mathlib.Core.List.{List, [], _∷_}
 use lib.Dec.{leb, ltb, eqb}
-use lib.ListN.{length}
+use lib.ListN.{length, getD, drop}
 use Rattle.std.specs.declared.option.Option.{Option}
 use Rattle.std.specs.declared.option.Option.the-variants.{None, Some}
 use Rattle.std.specs.declared.result.Result.{Result}
@@ -34,11 +34,10 @@ worth v (b ∷ bs) = worth (16 * v + valueOr (digitOf b) 0) bs
 abbrev pub numberOf : List ℕ → Result ℕ ParseFault
 numberOf bs = cond (eqb (length bs) 0) (Err NoDigits) (cond (ltb 4 (length bs)) (Err TooLong) (cond (allDigits bs) (Ok (worth 0 bs)) (Err NotHex)))
 
--- what stands behind a leading 0x or 0X, or all where there is none
-abbrev pub behindPrefix : List ℕ → List ℕ
-behindPrefix [] = []
-behindPrefix (z ∷ []) = z ∷ []
-behindPrefix (z ∷ x ∷ bs) = cond (eqb z 48) (cond (eqb x 120) bs (cond (eqb x 88) bs (z ∷ x ∷ bs))) (z ∷ x ∷ bs)
+-- whether a text begins with 0x or 0X
+abbrev pub prefixed : List ℕ → Bool
+prefixed bs = cond (leb 2 (length bs)) (cond (eqb (getD bs 0 0) 48) (cond (eqb (getD bs 1 0) 120) true (eqb (getD bs 1 0) 88)) false) false
 
+-- the table that a text writes: the number behind the prefix, if there is one
 abbrev pub tableOf : List ℕ → Result ℕ ParseFault
-tableOf bs = numberOf (behindPrefix bs)
+tableOf bs = numberOf (cond (prefixed bs) (drop 2 bs) bs)

@@ -14,19 +14,21 @@ use std::io;
 use tables::Table;
 use tables::Variable;
 
-const VARIABLES: [Variable; 4] = [
-    Variable::V0,
-    Variable::V1,
-    Variable::V2,
-    Variable::V3,
-];
+const VARIABLES: [Variable; 4] = [Variable::V0, Variable::V1, Variable::V2, Variable::V3];
 
 // The class, and how the table reads as its representative over x0 to x3.
 fn print_class(rt: &impl Print, f: Table) -> io::Result<()> {
     let class = classify(f);
     let (representative, transform) = (class.representative, class.transform);
-    let output = if transform.output() { "inverted" } else { "as it is" };
-    println!(rt, "  class {representative} ({representative:#06X}), output {output}")?;
+    let output = if transform.output() {
+        "inverted"
+    } else {
+        "as it is"
+    };
+    println!(
+        rt,
+        "  class {representative} ({representative:#06X}), output {output}"
+    )?;
     for signal in VARIABLES {
         let connection = Connection { transform, signal };
         println!(rt, "    {connection}")?;

@@ -31,11 +31,13 @@ impl Kind {
 
 pub impl fmt::Display for Kind as KindDisplay {
     fn fmt<W: fmt::Write>(&self, f: &mut fmt::Formatter<W>) -> fmt::Result {
-        f.write_str(match *self {
-            Kind::And => "AND",
-            Kind::AndXor => "AND-XOR",
-            Kind::Majority => "majority",
-            Kind::Table => "table",
-        })
+        f.write_str(
+            match *self {
+                Kind::And => "AND",
+                Kind::AndXor => "AND-XOR",
+                Kind::Majority => "majority",
+                Kind::Table => "table",
+            },
+        )
     }
 }

@@ -1,7 +1,10 @@
 // A table as text: one to four hexadecimal digits, with or without 0x before them.
 ghost use mathlib.Core.Path.{_≡_};
-ghost use Prim.Native.Nat.{_<_};
-ghost use Rattle.quote.specs.Hex.{digitOf, numberOf, tableOf};
+ghost use mathlib.Core.Bool.{true};
+ghost use Prim.Native.Nat.{_<_, _≤_};
+ghost use lib.ListN.{length};
+ghost use Rattle.std.specs.Options.{Cases as BySome};
+ghost use Rattle.quote.specs.Hex.{digitOf, numberOf, prefixed, tableOf};
 use std::fmt;
 use tables::Table;
 
@@ -18,17 +21,20 @@ pub enum ParseFault {
 
 pub impl fmt::Display for ParseFault as ParseFaultDisplay {
     fn fmt<W: fmt::Write>(&self, f: &mut fmt::Formatter<W>) -> fmt::Result {
-        f.write_str(match *self {
-            ParseFault::NoDigits => "no table, since there is no digit",
-            ParseFault::TooLong => "no table, since there are more than four digits",
-            ParseFault::NotHex => "no table, since not all of it is hexadecimal digits",
-        })
+        f.write_str(
+            match *self {
+                ParseFault::NoDigits => "no table, since there is no digit",
+                ParseFault::TooLong => "no table, since there are more than four digits",
+                ParseFault::NotHex => "no table, since not all of it is hexadecimal digits",
+            },
+        )
     }
 }
 
 // What a hexadecimal digit is worth, in either case.
 fn digit_value(b: u8) -> Option<u16>
-    ensures { λ r. ⌜ r ≡ digitOf b ⌝ }
+    ensures value { λ r. ⌜ r ≡ digitOf b ⌝ }
+    ensures low { λ r. ⌜ BySome r (Unit {0}) (λ d. d < 16) ⌝ }
 {
     match b {
         b'0'..=b'9' => Some(u16::from(b - b'0')),
@@ -58,12 +64,21 @@ fn parse_digits(digits: &[u8]) -> Result<u16, ParseFault>
     Ok(value)
 }
 
+// Whether a text begins with 0x or 0X.
+fn has_prefix(text: &[u8]) -> bool
+    ensures value { λ r. ⌜ r ≡ prefixed (now (text .entry)) ⌝ }
+    ensures long { λ r. ⌜ (r ≡ true → 2 ≤ length (now (text .entry))) ⌝ }
+{
+    text.len() >= 2 && text[0] == b'0' && (text[1] == b'x' || text[1] == b'X')
+}
+
 /// The table that a text writes.
 pub fn parse_table(text: &[u8]) -> Result<Table, ParseFault>
     ensures { λ r. ⌜ r ≡ tableOf (now (text .entry)) ⌝ }
 {
-    match text {
-        [b'0', b'x' | b'X', digits @ ..] => parse_digits(digits),
-        _ => parse_digits(text),
+    if has_prefix(text) {
+        parse_digits(&text[2..])
+    } else {
+        parse_digits(text)
     }
 }
