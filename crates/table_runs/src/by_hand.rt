@@ -2,12 +2,7 @@
 use tables::Table;
 use tables::Variable;
 
-pub const VARIABLES: [Variable; 4] = [
-    Variable::V0,
-    Variable::V1,
-    Variable::V2,
-    Variable::V3,
-];
+pub const VARIABLES: [Variable; 4] = [Variable::V0, Variable::V1, Variable::V2, Variable::V3];
 
 /// What a variable counts in the number of a setting.
 pub fn weight(v: Variable) -> u16 {

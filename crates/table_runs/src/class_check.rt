@@ -134,7 +134,9 @@ impl ClassTotals {
         if r == f {
             self.classes = self.classes.saturating_add(1);
         }
-        let mut right = r <= f && classify(r).representative == r && class.transform.image_of(f) == r;
+        let mut right = r <= f
+            && classify(r).representative == r
+            && class.transform.image_of(f) == r;
         if f % SAMPLE == 0 {
             self.searched = self.searched.saturating_add(1);
             right = right && is_least(f, class);
