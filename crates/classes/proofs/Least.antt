@@ -96,7 +96,7 @@ pub representative-least : (f n : ℕ) → n < 768 → representative f ≤ imag
 unfolding representative
 representative-least f n h = subst (λ (m : ℕ). least (images f) ≤ m) (at-images f n h) (least-le (images f) n (inside f n h))
 
-representative-lt : (f : ℕ) → representative f < 65536
+pub representative-lt : (f : ℕ) → representative f < 65536
 representative-lt f = le-lt (representative-least f 0 (lit< tt)) (image-lt (transformAt 0) f)
   where
     le-lt : {a b c : ℕ} → a ≤ b → b < c → a < c
@@ -242,7 +242,7 @@ pub record Promises (f r : ℕ) (t : Transform) : Type 0 where
   pub names : NamesClass f r
   pub recovers : Recovers f r t
 
-promises-of : (f : ℕ) → f < 65536 → Promises f (representative f) (chosenTransform f)
+pub promises-of : (f : ℕ) → f < 65536 → Promises f (representative f) (chosenTransform f)
 promises-of f h = record {
   least = (representative-image f, representative-least f);
   first = first-to f;

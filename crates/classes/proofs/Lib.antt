@@ -3,3 +3,4 @@ pub mod Orderings
 pub mod Transforms
 pub mod Least
 pub mod Members
+pub mod Supports

@@ -33,13 +33,13 @@ image-lt t f = tableOf-lt (λ y. inverted (t .output) (value f (readAt t y)))
 pub is-image : (t : Transform) (f g : ℕ) → g < 65536 → ((x : Setting) → value g x ≡ inverted (t .output) (value f (readAt t x))) → g ≡ image t f
 is-image t f g h e = same-values g (image t f) h (image-lt t f) (λ x. e x ∙ sym (value-image t f x))
 
-get-readAt : (t : Transform) (x : Setting) (k : Variable) → get (readAt t x) k ≡ readFrom t x k
+pub get-readAt : (t : Transform) (x : Setting) (k : Variable) → get (readAt t x) k ≡ readFrom t x k
 get-readAt t x V0 = refl
 get-readAt t x V1 = refl
 get-readAt t x V2 = refl
 get-readAt t x V3 = refl
 
-get-readBack : (t : Transform) (y : Setting) (v : Variable) → get (readBack t y) v ≡ givenTo t y v
+pub get-readBack : (t : Transform) (y : Setting) (v : Variable) → get (readBack t y) v ≡ givenTo t y v
 get-readBack t y V0 = refl
 get-readBack t y V1 = refl
 get-readBack t y V2 = refl

@@ -2,6 +2,8 @@
 ghost use mathlib.Core.Path.{_≡_};
 ghost use mathlib.Core.Bool.{cond};
 ghost use Prim.Native.Nat.{_+_, _*_};
+ghost use Rattle.netlists.specs.Refusals.{numberOf};
+ghost use Rattle.netlists.specs.Worked.{Majority-of-opposites};
 use tables::Table;
 
 /// A node of a network: 0 is constant false, then come the inputs, then the rows.
@@ -25,6 +27,55 @@ pub struct Row {
     pub b: Node,
     pub c: Node,
     pub d: Node,
+}
+
+/// The four signals that a table is placed over; variable k of the table is the k-th.
+#[derive(Clone, Copy, PartialEq, Eq, Debug)]
+pub struct Fanins {
+    pub a: Signal,
+    pub b: Signal,
+    pub c: Signal,
+    pub d: Signal,
+}
+
+/// A function of nodes in normal form: a row whose table is false at index 0, or the inversion of one.
+/// A constant is held over no node, and a single node over that node alone.
+#[derive(Clone, Copy, PartialEq, Eq, Debug)]
+pub struct Form {
+    pub row: Row,
+    pub inverted: bool,
+}
+
+/// Why a call of a network is refused.
+#[derive(Clone, Copy, PartialEq, Eq, Debug)]
+pub enum Refusal {
+    /// A signal's node is not there.
+    NoSuchNode,
+    /// The row asked for is not there.
+    NoSuchRow,
+    /// The output asked for is not there.
+    NoSuchOutput,
+    /// More than 32 inputs.
+    TooManyInputs,
+    /// More than 32 outputs.
+    TooManyOutputs,
+    /// A function of two or more nodes whose class is not owned.
+    NotOwned,
+    /// A new row is needed, and every place is taken.
+    NoPlace,
+}
+
+impl Refusal {
+    /// The number that the refusal is known by.
+    pub fn number(self) -> u8
+        ensures { λ r. ⌜ r ≡ numberOf self ⌝ }
+    {
+        match self {
+            Refusal::NoSuchNode | Refusal::NoSuchRow | Refusal::NoSuchOutput => 9,
+            Refusal::TooManyInputs | Refusal::TooManyOutputs | Refusal::NotOwned => 10,
+            Refusal::NoPlace => 11,
+        }
+    }
 }
 
 impl Node {
@@ -72,4 +123,11 @@ impl Signal {
     {
         2 * self.node.number as u32 + self.inverted as u32
     }
+}
+
+/// Worked cases, computed by the definitions.
+pub fn worked_cases() -> u8
+    ensures majority { λ _. ⌜ Majority-of-opposites ⌝ }
+{
+    0
 }

@@ -1,13 +1,16 @@
 -- The plan of a table: its lines and its result, by the first rule that fits it and then its parts.
 use Prim.Native.Nat.{ℕ, zero, suc, _+_, _*_}
+use mathlib.Core.Path.{_≡_}
 use mathlib.Core.Bool.{Bool, true, false, not, cond}
 use mathlib.Core.List.{List, [], _∷_, _++_}
 use lib.ListN.{length}
 use Rattle.tables.specs.declared.Variable.{Variable}
 use Rattle.tables.specs.declared.Variable.the-variants.{V0, V1, V2, V3}
+use Rattle.tables.specs.Settings.{Setting}
 use Rattle.tables.specs.Tables.{cofactor, dependsOn}
 use Rattle.classes.specs.declared.Ownership.{Ownership}
 use Rattle.classes.specs.declared.Transform.{Transform}
+use Rattle.classes.specs.Owned.{owns}
 use Rattle.classes.specs.Images.{maskAt, placeIn, representative, chosenTransform}
 use Rattle.rules.specs.declared.Rule.{Rule}
 use Rattle.rules.specs.declared.Rule.the-variants.{Constant, Single, Whole, AndLow, AndHigh, OrLow, OrHigh, Exclusive, Split}
@@ -16,7 +19,7 @@ use Rattle.plans.specs.declared.Source.the-variants as source
 use Rattle.plans.specs.declared.Literal.{Literal}
 use Rattle.plans.specs.declared.Line.{Line}
 use Rattle.plans.specs.declared.Inputs.{Inputs}
-use Rattle.plans.specs.Lines.{nothing, nth, turned, stands}
+use Rattle.plans.specs.Lines.{nothing, nth, turned, stands, literalValue, answers}
 
 -- lines, and the literal that holds the table's value after them
 pub record Written : Type 0 where
@@ -103,3 +106,14 @@ abbrev pub bound : ℕ → ℕ
 bound zero = 0
 bound (suc zero) = 0
 bound (suc (suc n)) = 3 + 2 * bound (suc n)
+
+-- ---- what a plan promises
+
+-- the value of what is written, at a setting of the four signals
+abbrev pub planValue : Setting → Written → Bool
+planValue y w = literalValue y (answers y [] (w .lines)) (w .result)
+
+-- the class of every line's table is owned
+abbrev pub EachOwned : Ownership → List Line → Type 0
+EachOwned own [] = Unit {0}
+EachOwned own (l ∷ ls) = (owns own (l .table) ≡ true) × EachOwned own ls

@@ -3,9 +3,8 @@ ghost use mathlib.Core.Path.{_≡_};
 ghost use mathlib.Core.List.{List, _++_, _∷_, []};
 ghost use Prim.Native.Nat.{ℕ, _<_, _≤_, _+_};
 ghost use lib.ListN.{take, length};
-ghost use Rattle.plans.specs.Lines.{nth, nothing};
 ghost use Rattle.plans.specs.Plans.{twoOf, used, wholeOf, oneMore, either};
-ghost use Rattle.plans.specs.Held.{Held, Stored};
+ghost use Rattle.plans.specs.Held.{Held, Stored, listed};
 use crate::Inputs;
 use crate::Line;
 use crate::Literal;
@@ -109,19 +108,11 @@ impl Lines {
         self.push(two_of(0xEEEE, p, q))
     }
 
-    /// How many lines there are.
-    pub fn len(&self) -> usize
-        ensures { λ r. ⌜ r ≡ now (self .entry) .count ⌝ }
+    // The lines that are there.
+    pub(crate) fn as_slice(&self) -> &[Line]
+        requires { ⌜ now self .count ≤ 21 ⌝ }
+        ensures { λ r. ⌜ now r ≡ listed (now (self .entry)) ⌝ }
     {
-        self.count
-    }
-
-    /// Line number `i`, counted from 0.
-    pub fn get(&self, i: usize) -> Option<Line> {
-        if i < self.count && i < 21 {
-            Some(self.items[i])
-        } else {
-            None
-        }
+        &self.items[0..self.count]
     }
 }

@@ -2,8 +2,10 @@
 ghost use mathlib.Core.Path.{_≡_};
 ghost use mathlib.Core.List.{List};
 ghost use Prim.Native.Nat.{ℕ, _<_, _≤_, _+_};
-ghost use Rattle.tables.specs.Tables.{supportSize};
-ghost use Rattle.plans.specs.Plans.{write, exclusive, bound, input, inputs};
+ghost use lib.ListN.{length};
+ghost use Rattle.tables.specs.Settings.{Setting};
+ghost use Rattle.tables.specs.Tables.{value, supportSize};
+ghost use Rattle.plans.specs.Plans.{write, exclusive, bound, input, inputs, planOf, planValue, EachOwned};
 ghost use Rattle.plans.specs.Held.{Held, Stored, listed};
 use crate::Inputs;
 use crate::Line;
@@ -86,6 +88,7 @@ fn write_table(h: Table, own: Ownership, inputs: Inputs, lines: &mut Lines) -> L
 pub struct Plan {
     lines: Lines,
     result: Literal,
+    ghost few: { lines .count ≤ 21 },
 }
 
 // What variable `v` of the representative stands for.
@@ -111,7 +114,14 @@ fn inputs_of(t: Transform) -> Inputs
 }
 
 /// The plan of a table for the classes that are owned.
-pub fn plan_table(own: Ownership, f: Table) -> Plan {
+pub fn plan_table(own: Ownership, f: Table) -> Plan
+    ensures lines { λ r. ⌜ listed (r .lines) ≡ planOf own f .lines ⌝ }
+    ensures result { λ r. ⌜ r .result ≡ planOf own f .result ⌝ }
+    ensures value { λ r. ⌜ ((y : Setting) → planValue y (record { lines = listed (r .lines); result = r .result }) ≡ value f y) ⌝ }
+    ensures few { λ r. ⌜ length (listed (r .lines)) ≤ bound (supportSize f) ⌝ }
+    ensures most { λ r. ⌜ length (listed (r .lines)) ≤ 21 ⌝ }
+    ensures owned { λ r. ⌜ EachOwned own (listed (r .lines)) ⌝ }
+{
     let class = classify(f);
     let t = class.transform;
     let mut lines = Lines::new();
@@ -123,18 +133,24 @@ pub fn plan_table(own: Ownership, f: Table) -> Plan {
 }
 
 impl Plan {
-    /// How many lines it has.
-    pub fn len(&self) -> usize {
-        self.lines.len()
+    /// The lines, in order.
+    pub fn lines(&self) -> &[Line]
+        ensures { λ r. ⌜ now r ≡ listed (now (self .entry) .lines) ⌝ }
+    {
+        self.lines.as_slice()
     }
 
-    /// Line number `i`, counted from 0.
-    pub fn line(&self, i: usize) -> Option<Line> {
-        self.lines.get(i)
+    /// How many lines it has.
+    pub fn len(&self) -> usize
+        ensures { λ r. ⌜ r ≡ length (listed (now (self .entry) .lines)) ⌝ }
+    {
+        self.lines().len()
     }
 
     /// The literal that has the table's value after the lines.
-    pub fn result(&self) -> Literal {
+    pub fn result(&self) -> Literal
+        ensures { λ r. ⌜ r ≡ now (self .entry) .result ⌝ }
+    {
         self.result
     }
 }

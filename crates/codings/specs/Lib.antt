@@ -1,0 +1,3 @@
+pub mod Coders
+pub mod Codes
+pub mod Codings
