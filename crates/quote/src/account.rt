@@ -42,11 +42,12 @@ fn print_plan(rt: &impl Print, kind: Kind, f: Table) -> io::Result<()> {
     let count = plan.len();
     let gates = if count == 1 { "gate" } else { "gates" };
     println!(rt, "  {kind}: {count} {gates}")?;
-    for number in 0..count {
-        if let Some(line) = plan.line(number) {
-            let gate = Gate { number, line };
-            println!(rt, "    {gate}")?;
-        }
+    for (number, line) in plan.lines().iter().enumerate() {
+        let gate = Gate {
+            number,
+            line: *line,
+        };
+        println!(rt, "    {gate}")?;
     }
     let result = Signal(plan.result());
     println!(rt, "    f = {result}")

@@ -47,15 +47,15 @@ fn line_value(line: Line, setting: u16, answers: &[bool]) -> Option<bool> {
 
 // The value of a plan, where each line reads only lines before it and there are not too many.
 fn plan_value(plan: &Plan, setting: u16) -> Option<bool> {
-    let mut answers = [false; MOST];
-    let count = plan.len();
-    if count > MOST {
+    let lines = plan.lines();
+    if lines.len() > MOST {
         return None;
     }
-    for i in 0..count {
-        answers[i] = line_value(plan.line(i)?, setting, &answers[0..i])?;
+    let mut answers = [false; MOST];
+    for i in 0..lines.len() {
+        answers[i] = line_value(lines[i], setting, &answers[0..i])?;
     }
-    literal_value(plan.result(), setting, &answers[0..count])
+    literal_value(plan.result(), setting, &answers[0..lines.len()])
 }
 
 // Whether a plan has the value of the table everywhere.
@@ -122,10 +122,7 @@ fn is_fed(table: Table, v: Variable, literal: Literal) -> bool {
 
 // Whether each line has a table that is owned, and constant false for what the table does not use.
 fn has_form(own: Ownership, plan: &Plan) -> bool {
-    for i in 0..plan.len() {
-        let Some(line) = plan.line(i) else {
-            return false;
-        };
+    for line in plan.lines() {
         let fed = is_fed(line.table, Variable::V0, line.a)
             && is_fed(line.table, Variable::V1, line.b)
             && is_fed(line.table, Variable::V2, line.c)
