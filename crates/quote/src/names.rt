@@ -6,6 +6,7 @@ use plans::Line;
 use plans::Literal;
 use plans::Source;
 use std::fmt;
+use tables::Table;
 use tables::Variable;
 
 // The name of a signal of the table.
@@ -49,18 +50,29 @@ pub enum Operation {
     And,
     Or,
     Xor,
-    Table,
+    Other(Table),
 }
 
-// The operation of a line.
-fn named_operation(line: Line) -> Operation
-    ensures { λ r. ⌜ r ≡ operationOf (line .table) ⌝ }
+// The operation of a table.
+fn operation_of(f: Table) -> Operation
+    ensures { λ r. ⌜ r ≡ operationOf f ⌝ }
 {
-    match line.table {
+    match f {
         0x8888 => Operation::And,
         0xEEEE => Operation::Or,
         0x6666 => Operation::Xor,
-        _ => Operation::Table,
+        _ => Operation::Other(f),
+    }
+}
+
+pub impl fmt::Display for Operation as OperationDisplay {
+    fn fmt<W: fmt::Write>(&self, f: &mut fmt::Formatter<W>) -> fmt::Result {
+        match *self {
+            Operation::And => f.write_str("AND"),
+            Operation::Or => f.write_str("OR"),
+            Operation::Xor => f.write_str("XOR"),
+            Operation::Other(table) => write!(f, "TABLE {table:#06X}"),
+        }
     }
 }
 
@@ -74,17 +86,14 @@ pub struct Gate {
 pub impl fmt::Display for Gate as GateDisplay {
     fn fmt<W: fmt::Write>(&self, f: &mut fmt::Formatter<W>) -> fmt::Result {
         let number = self.number;
+        let operation = operation_of(self.line.table);
         let (a, b) = (Signal(self.line.a), Signal(self.line.b));
-        match named_operation(self.line) {
-            Operation::And => write!(f, "g{number} = AND({a}, {b})"),
-            Operation::Or => write!(f, "g{number} = OR({a}, {b})"),
-            Operation::Xor => write!(f, "g{number} = XOR({a}, {b})"),
-            Operation::Table => {
-                let table = self.line.table;
-                let (c, d) = (Signal(self.line.c), Signal(self.line.d));
-                write!(f, "g{number} = TABLE {table:#06X}({a}, {b}, {c}, {d})")
-            }
+        write!(f, "g{number} = {operation}({a}, {b}")?;
+        if let Operation::Other(_) = operation {
+            let (c, d) = (Signal(self.line.c), Signal(self.line.d));
+            write!(f, ", {c}, {d}")?;
         }
+        f.write_str(")")
     }
 }
 
