@@ -71,7 +71,7 @@ module _ (o : Ownership) (places : ℕ) (size : ℕ) (n : Netlist) (law : Lawful
       signal-is v = here .signals-at (nodeAt (row k) v .number) (law .rows-lawful k inside .earlier v) (opens v)
 
       abbrev fanins : Fanins
-      fanins = faninsIn c (row k)
+      fanins = faninsIn (c .signals) (row k)
 
       abbrev form : Form
       form = record { row = new k; inverted = false }
@@ -82,7 +82,7 @@ module _ (o : Ownership) (places : ℕ) (size : ℕ) (n : Netlist) (law : Lawful
         means = λ φ z.
           let one = λ (v : Variable). ap (signalUnder φ) (sym (signal-is v)) in
           ap₂ (λ (a b : Bool). value (row k .table) (record { a = a; b = b; c = φ (renumber keep i (row k .c .number)); d = φ (renumber keep i (row k .d .number)) })) (one V0) (one V1)
-          ∙ ap₂ (λ (a b : Bool). value (row k .table) (record { a = signalUnder φ (signalIn c (row k .a)); b = signalUnder φ (signalIn c (row k .b)); c = a; d = b })) (one V2) (one V3);
+          ∙ ap₂ (λ (a b : Bool). value (row k .table) (record { a = signalUnder φ (signalIn (c .signals) (row k .a)); b = signalUnder φ (signalIn (c .signals) (row k .b)); c = a; d = b })) (one V2) (one V3);
       }
 
       form-is : form ≡ normal (row k .table) fanins

@@ -111,8 +111,8 @@ inverted-plain : (b : Bool) → inverted b false ≡ b
 inverted-plain true = refl
 inverted-plain false = refl
 
-through-is : (c : Copy) (ρ : ℕ → ℕ) (s : Signal) → getD (c .signals) (s .node .number) noSignal ≡ plain (ρ (s .node .number)) → through c s ≡ relabelSignal ρ s
-through-is c ρ s e =
+through-is : (sig : List Signal) (ρ : ℕ → ℕ) (s : Signal) → getD sig (s .node .number) noSignal ≡ plain (ρ (s .node .number)) → through sig s ≡ relabelSignal ρ s
+through-is sig ρ s e =
     ap (λ (t : Signal). signalOf (t .node) (inverted (s .inverted) (t .inverted))) e
     ∙ ap (signalOf (record { number = ρ (s .node .number) })) (inverted-plain (s .inverted))
 
@@ -123,12 +123,11 @@ outs : (sig : List Signal) (ρ : ℕ → ℕ) (ss : List Signal) (m : Netlist)
 unfolding copyOutputs
 outs sig ρ [] m h few = ap (λ (os : List Signal). Ok (withOutputs m os)) (sym (append-nil (m .outputs)))
 outs sig ρ (s ∷ ss) m h few =
-    let c : Copy = record { netlist = m; signals = sig } in
     let t = relabelSignal ρ s in
     let p = h 0 (omega arith) in
     let room : length (m .outputs) < 32 = omega arith in
     let e = length-push (m .outputs) t in
-    ap (λ (x : Signal). andThen (afterOutput m x) (λ y. copyOutputs ss (record { netlist = y; signals = sig }))) (through-is c ρ s (p .0))
+    ap (λ (x : Signal). andThen (afterOutput m x) (λ y. copyOutputs ss (record { netlist = y; signals = sig }))) (through-is sig ρ s (p .0))
     ∙ ap (λ (x : Result Netlist Refusal). andThen x (λ y. copyOutputs ss (record { netlist = y; signals = sig }))) (output-few m t (le-leb (ρ (s .node .number)) (m .inputs + length (m .rows)) (p .1)) room)
     ∙ outs sig ρ ss (withOutput m t) (λ k l. h (suc k) (omega arith)) (omega arith)
     ∙ ap (λ (os : List Signal). Ok (withOutputs m os)) (append-assoc (m .outputs) (t ∷ []) (map (relabelSignal ρ) ss))

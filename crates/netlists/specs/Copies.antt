@@ -23,11 +23,11 @@ pub record Copy : Type 0 where
   pub netlist : Netlist
   pub signals : List Signal
 
-abbrev pub signalIn : Copy → Node → Signal
-signalIn c x = getD (c .signals) (x .number) noSignal
+abbrev pub signalIn : List Signal → Node → Signal
+signalIn ss x = getD ss (x .number) noSignal
 
-abbrev pub faninsIn : Copy → Row → Fanins
-faninsIn c r = record { a = signalIn c (r .a); b = signalIn c (r .b); c = signalIn c (r .c); d = signalIn c (r .d) }
+abbrev pub faninsIn : List Signal → Row → Fanins
+faninsIn ss r = record { a = signalIn ss (r .a); b = signalIn ss (r .b); c = signalIn ss (r .c); d = signalIn ss (r .d) }
 
 -- what follows an accepted call; a refusal stays
 abbrev pub andThen : {A B : Type 0} → Result A Refusal → (A → Result B Refusal) → Result B Refusal
@@ -40,11 +40,15 @@ noted c p = Ok (record { netlist = p .netlist; signals = c .signals ++ p .signal
 abbrev pub skipped : Copy → Copy
 skipped c = record { netlist = c .netlist; signals = c .signals ++ noSignal ∷ [] }
 
--- the row of the next node is placed over the signals of its nodes, where that node is kept
+-- the row of the next node is placed over the signals of its nodes
+abbrev pub placeNext : Ownership → ℕ → Row → Copy → Result Copy Refusal
+placeNext o places r c = andThen (afterPlace o places (c .netlist) (r .table) (faninsIn (c .signals) r)) (noted c)
+
+-- and so it is where that node is kept; elsewhere the row is left out
 unfoldable pub copyRow : Ownership → ℕ → (ℕ → Bool) → Row → Copy → Result Copy Refusal
 copyRow o places keep r c =
     elim (keep (length (c .signals))) [
-      true ↦ andThen (afterPlace o places (c .netlist) (r .table) (faninsIn c r)) (noted c)
+      true ↦ placeNext o places r c
     | false ↦ Ok (skipped c)
     ]
 
@@ -54,12 +58,12 @@ copyRows o places keep [] c = Ok c
 copyRows o places keep (r ∷ rs) c = andThen (copyRow o places keep r c) (copyRows o places keep rs)
 
 -- a signal of the other netlist, as a signal of this one
-abbrev pub through : Copy → Signal → Signal
-through c s = signalOf (signalIn c (s .node) .node) (inverted (s .inverted) (signalIn c (s .node) .inverted))
+abbrev pub through : List Signal → Signal → Signal
+through ss s = signalOf (signalIn ss (s .node) .node) (inverted (s .inverted) (signalIn ss (s .node) .inverted))
 
 unfoldable pub copyOutputs : List Signal → Copy → Result Netlist Refusal
 copyOutputs [] c = Ok (c .netlist)
-copyOutputs (s ∷ ss) c = andThen (afterOutput (c .netlist) (through c s)) (λ m. copyOutputs ss (record { netlist = m; signals = c .signals }))
+copyOutputs (s ∷ ss) c = andThen (afterOutput (c .netlist) (through (c .signals) s)) (λ m. copyOutputs ss (record { netlist = m; signals = c .signals }))
 
 -- an empty network with i inputs, for the nodes of another with as many
 unfoldable pub fresh : ℕ → Copy

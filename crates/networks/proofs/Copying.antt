@@ -1,0 +1,109 @@
+-- The steps of a copy, over plain lists.
+use Prim.Native.Nat.{ℕ, _+_, _<_, _≤_}
+use mathlib.Core.Path.{_≡_, refl, sym, _∙_, ap, ap₂, subst}
+use mathlib.Core.Bool.{Bool, true, false}
+use mathlib.Core.List.{List, [], _∷_, _++_}
+use native.Mathlib.Omega.{arith}
+use lib.ListN.{length, getD, take, drop, set}
+use Rattle.std.proofs.shelf.Lists.{getD-past, getD-take, length-take-le, take-more-set, at-drop-more, at-drop-all}
+use Rattle.std.specs.declared.result.Result.{Result}
+use Rattle.std.specs.declared.result.Result.the-variants.{Ok, Err}
+use Rattle.classes.specs.declared.Ownership.{Ownership}
+use Rattle.netlists.specs.declared.Node.{Node}
+use Rattle.netlists.specs.declared.Signal.{Signal}
+use Rattle.netlists.specs.declared.Row.{Row}
+use Rattle.netlists.specs.declared.Fanins.{Fanins}
+use Rattle.netlists.specs.declared.Refusal.{Refusal}
+use Rattle.netlists.specs.Netlists.{Netlist}
+use Rattle.netlists.specs.Placing.{noRow, noSignal, Placing, afterPlace, rowAsked}
+use Rattle.netlists.specs.Copies.{Copy, faninsIn, andThen, noted, placeNext, copyRow, copyRows}
+use Rattle.netlists.proofs.Ways.{taken, passed, row-there}
+use Rattle.networks.specs.Copying.{Due, under}
+
+pub is-no-signal : (s : Signal) (n : Node) → s .node ≡ n → n .number ≡ 0 → s .inverted ≡ false → s ≡ noSignal
+is-no-signal s n a b c =
+    ap₂ (λ (x : Node) (i : Bool). record { node = x; inverted = i }) (a ∙ ap (λ (k : ℕ). record { number = k }) b) c
+
+pub signal-past : (ss : List Signal) (made k : ℕ) → made ≤ length ss → made ≤ k → getD (take made ss) k noSignal ≡ noSignal
+signal-past ss made k h l = getD-past (take made ss) k noSignal (subst (λ (x : ℕ). x ≤ k) (sym (length-take-le made ss h)) l)
+
+pub placed-next : (o : Ownership) (places made : ℕ) (n m : Netlist) (ss : List Signal) (r : Row) (f : Fanins) (s : Signal) → made < length ss → f ≡ faninsIn (take made ss) r
+    → afterPlace o places n (r .table) f ≡ Ok (record { signal = s; netlist = m }) → placeNext o places r (under n made ss) ≡ Ok (under m (made + 1) (set ss made s))
+placed-next o places made n m ss r f s h e p =
+    ap (λ (x : Result Placing Refusal). andThen x (noted (under n made ss))) (ap (afterPlace o places n (r .table)) (sym e) ∙ p)
+    ∙ ap (λ (xs : List Signal). Ok (record { netlist = m; signals = xs })) (sym (take-more-set ss made s h))
+
+-- ---- the next row
+
+tested : (kept : ℕ → Bool) (made : ℕ) (ss : List Signal) (b : Bool) → made < length ss → kept made ≡ b → kept (length (take made ss)) ≡ b
+tested kept made ss b h e = ap kept (length-take-le made ss (omega arith)) ∙ e
+
+pub next-kept : (o : Ownership) (places made : ℕ) (n : Netlist) (ss : List Signal) (r : Row) (kept : ℕ → Bool) → made < length ss → kept made ≡ true
+    → copyRow o places kept r (under n made ss) ≡ placeNext o places r (under n made ss)
+unfolding copyRow
+next-kept o places made n ss r kept h e = taken (kept (length (take made ss))) _ _ (tested kept made ss true h e)
+
+pub next-left : (o : Ownership) (places made : ℕ) (n : Netlist) (ss : List Signal) (r : Row) (s : Signal) (kept : ℕ → Bool) → made < length ss → kept made ≡ false → s ≡ noSignal
+    → copyRow o places kept r (under n made ss) ≡ Ok (under n (made + 1) (set ss made s))
+unfolding copyRow
+next-left o places made n ss r s kept h e z =
+    passed (kept (length (take made ss))) _ _ (tested kept made ss false h e)
+    ∙ ap (λ (x : Signal). Ok (record { netlist = n; signals = take made ss ++ x ∷ [] })) (sym z)
+    ∙ ap (λ (xs : List Signal). Ok (record { netlist = n; signals = xs })) (sym (take-more-set ss made s h))
+
+pub due-same : {A B : Type 0} (x y : Result A Refusal) (r : Result B Refusal) (z : A) → x ≡ y → Due y r z → Due x r z
+due-same x y (Ok u) z e h = e ∙ h
+due-same x y (Err u) z e h = e ∙ h
+
+-- ---- the loop over the rows
+
+pub never {ℓ} : {A : Type 0} {C : Type ℓ} (x : A) (e : Refusal) (r : Result A Refusal) → r ≡ Ok x → r ≡ Err e → C
+never x e r p q = let z : _≡_ {A = ℕ} 0 1 = cc in absurd (omega arith)
+
+pub err-due : {A B : Type 0} (due : Result A Refusal) (r : Result B Refusal) (x : A) (e : Refusal) → r ≡ Err e → due ≡ Err e → Due due r x
+err-due due r x e p q = subst (λ (s : Result _ Refusal). Due due s x) (sym p) q
+
+-- the row that was asked for
+pub row-read : (n : Netlist) (k : ℕ) (r : Row) → k < length (n .rows) → Ok r ≡ rowAsked n k → r ≡ getD (n .rows) k noRow
+row-read n k r h e = let p = row-there n k h in cc
+
+module _ (o : Ownership) (places : ℕ) (kept : ℕ → Bool) (rows : List Row) (total : Result Copy Refusal) where
+  rest-is : (k : ℕ) (c : Copy) (r : Row) → k < length rows → r ≡ getD rows k noRow → copyRows o places kept (drop k rows) c ≡ total
+      → andThen (copyRow o places kept r c) (copyRows o places kept (drop (k + 1) rows)) ≡ total
+  unfolding copyRows
+  rest-is k c r h e inv =
+      ap (λ (x : Row). andThen (copyRow o places kept x c) (copyRows o places kept (drop (k + 1) rows))) e
+      ∙ sym (at-drop-more (λ rs. copyRows o places kept rs c) rows k noRow h) ∙ inv
+
+  pub rows-err : (k : ℕ) (c : Copy) (r : Row) (e : Refusal) → k < length rows → r ≡ getD rows k noRow → copyRows o places kept (drop k rows) c ≡ total
+      → copyRow o places kept r c ≡ Err e → total ≡ Err e
+  rows-err k c r e h p inv q = sym (rest-is k c r h p inv) ∙ ap (λ (x : Result Copy Refusal). andThen x (copyRows o places kept (drop (k + 1) rows))) q
+
+  pub rows-more : (k : ℕ) (c d : Copy) (r : Row) → k < length rows → r ≡ getD rows k noRow → copyRows o places kept (drop k rows) c ≡ total
+      → copyRow o places kept r c ≡ Ok d → copyRows o places kept (drop (k + 1) rows) d ≡ total
+  rows-more k c d r h p inv q = ap (λ (x : Result Copy Refusal). andThen x (copyRows o places kept (drop (k + 1) rows))) (sym q) ∙ rest-is k c r h p inv
+
+  pub rows-end : (k : ℕ) (c : Copy) → length rows ≤ k → copyRows o places kept (drop k rows) c ≡ total → total ≡ Ok c
+  unfolding copyRows
+  rows-end k c h inv = sym inv ∙ at-drop-all (λ rs. copyRows o places kept rs c) rows k h
+
+-- the same, with the counts that the code has
+pub loop-more : (o : Ownership) (p q i j k : ℕ) (kept : ℕ → Bool) (rows : List Row) (n m : Netlist) (ss ts : List Signal) (r : Row) (total : Result Copy Refusal)
+    → q ≡ p → j ≡ i → k < length rows → r ≡ getD rows k noRow → copyRows o p kept (drop k rows) (under n (i + 1 + k) ss) ≡ total
+    → copyRow o q kept r (under n (j + 1 + k) ss) ≡ Ok (under m (j + 1 + k + 1) ts) → copyRows o p kept (drop (k + 1) rows) (under m (i + 1 + (k + 1)) ts) ≡ total
+loop-more o p q i j k kept rows n m ss ts r total a b h e inv s =
+    let x : copyRow o p kept r (under n (i + 1 + k) ss) ≡ copyRow o q kept r (under n (j + 1 + k) ss) = ap₂ (λ (y z : ℕ). copyRow o y kept r (under n (z + 1 + k) ss)) (sym a) (sym b) in
+    let num : j + 1 + k + 1 ≡ i + 1 + (k + 1) = omega arith in
+    rows-more o p kept rows total k (under n (i + 1 + k) ss) (under m (i + 1 + (k + 1)) ts) r h e inv (x ∙ s ∙ ap (λ (y : ℕ). Ok (under m y ts)) num)
+
+pub loop-err : (o : Ownership) (p q i j k : ℕ) (kept : ℕ → Bool) (rows : List Row) (n : Netlist) (ss : List Signal) (r : Row) (total : Result Copy Refusal) (e : Refusal)
+    → q ≡ p → j ≡ i → k < length rows → r ≡ getD rows k noRow → copyRows o p kept (drop k rows) (under n (i + 1 + k) ss) ≡ total
+    → copyRow o q kept r (under n (j + 1 + k) ss) ≡ Err e → total ≡ Err e
+loop-err o p q i j k kept rows n ss r total e a b h d inv s =
+    let x : copyRow o p kept r (under n (i + 1 + k) ss) ≡ copyRow o q kept r (under n (j + 1 + k) ss) = ap₂ (λ (y z : ℕ). copyRow o y kept r (under n (z + 1 + k) ss)) (sym a) (sym b) in
+    rows-err o p kept rows total k (under n (i + 1 + k) ss) r e h d inv (x ∙ s)
+
+pub loop-end : (o : Ownership) (p i k : ℕ) (kept : ℕ → Bool) (rows : List Row) (n : Netlist) (ss : List Signal) (total : Result Copy Refusal)
+    → k ≡ length rows → copyRows o p kept (drop k rows) (under n (i + 1 + k) ss) ≡ total → total ≡ Ok (under n (i + 1 + length rows) ss)
+loop-end o p i k kept rows n ss total e inv =
+    rows-end o p kept rows total k (under n (i + 1 + k) ss) (omega arith) inv ∙ ap (λ (y : ℕ). Ok (under n (i + 1 + y) ss)) e

@@ -1,0 +1,81 @@
+// Netlists placed row by row into another network.
+ghost use mathlib.Core.Path.{_≡_};
+ghost use mathlib.Core.Bool.{Bool, false};
+ghost use Prim.Native.Nat.{ℕ, _+_, _<_, _≤_};
+ghost use lib.ListN.{length, getD, take};
+ghost use Rattle.netlists.specs.Netlists.{Netlist};
+ghost use Rattle.netlists.specs.Placing.{noSignal};
+ghost use Rattle.netlists.specs.Copies.{faninsIn, through, placeNext, copyRow, copyRows, copyOutputs};
+ghost use Rattle.networks.specs.Copying.{Due, under, marked};
+use crate::Network;
+use netlists::Fanins;
+use netlists::Node;
+use netlists::Refusal;
+use netlists::Row;
+use netlists::Signal;
+
+// The signal that stands for a node; signal 0 where the node is not yet there.
+fn signal_at(signals: &[Signal], made: usize, node: Node) -> Signal
+    requires { ⌜ made ≤ length (now signals) ⌝ }
+    ensures { λ r. ⌜ r ≡ getD (take made (now (signals .entry))) (node .number) noSignal ⌝ }
+{
+    let n = node.number() as usize;
+    if n < made {
+        signals[n]
+    } else {
+        Node::new(0).signal(false)
+    }
+}
+
+// The signals that stand for the nodes of a row.
+fn fanins_at(signals: &[Signal], made: usize, row: Row) -> Fanins
+    requires { ⌜ made ≤ length (now signals) ⌝ }
+    ensures { λ r. ⌜ r ≡ faninsIn (take made (now (signals .entry))) row ⌝ }
+{
+    Fanins {
+        a: signal_at(signals, made, row.a),
+        b: signal_at(signals, made, row.b),
+        c: signal_at(signals, made, row.c),
+        d: signal_at(signals, made, row.d),
+    }
+}
+
+// Places a row over the signals of its nodes; the answer stands for the row's node.
+fn copy_row<N: Network>(row: Row, to: &mut N, signals: &mut [Signal], made: usize) -> Result<(), Refusal>
+    requires { ⌜ made < length (now signals) ⌝ }
+    ensures copy { λ r. ⌜ Due (placeNext (N·Network .ownership) (N·Network .places (now (to .entry))) row (under (N·Network .netlist (now (to .entry))) made (now (signals .entry)))) r (under (N·Network .netlist (now (to .exit))) (made + 1) (now (signals .exit))) ⌝ }
+    ensures kept { λ _. ⌜ N·Network .places (now (to .exit)) ≡ N·Network .places (now (to .entry)) ⌝ }
+{
+    let fanins = fanins_at(signals, made, row);
+    let signal = to.place(row.table, fanins)?;
+    signals[made] = signal;
+    Ok(())
+}
+
+// The next row: placed where it is kept, else left out, with signal 0 in its place.
+fn copy_next<N: Network>(row: Row, keep: bool, to: &mut N, signals: &mut [Signal], made: usize) -> Result<(), Refusal>
+    requires { ⌜ made < length (now signals) ⌝ }
+    ensures copy { λ r. ⌜ ((kept : ℕ → Bool) → kept made ≡ keep → Due (copyRow (N·Network .ownership) (N·Network .places (now (to .entry))) kept row (under (N·Network .netlist (now (to .entry))) made (now (signals .entry)))) r (under (N·Network .netlist (now (to .exit))) (made + 1) (now (signals .exit)))) ⌝ }
+    ensures same { λ _. ⌜ N·Network .places (now (to .exit)) ≡ N·Network .places (now (to .entry)) ⌝ }
+{
+    if keep {
+        return copy_row(row, to, signals, made);
+    }
+    signals[made] = Node::new(0).signal(false);
+    Ok(())
+}
+
+// The rows that are marked, in order, into a network that has as many inputs and signals for them.
+fn copy_rows<N: Network>(from: &N, to: &mut N, marks: &[bool], signals: &mut [Signal]) -> Result<(), Refusal>
+    requires { ⌜ length (now marks) ≡ 577 ⌝ ∗ ⌜ length (now signals) ≡ 577 ⌝ }
+    ensures copy { λ r. ⌜ Due (copyRows (N·Network .ownership) (N·Network .places (now (to .entry))) (marked (now (marks .entry))) (N·Network .netlist (now (from .entry)) .rows) (under (N·Network .netlist (now (to .entry))) (N·Network .netlist (now (from .entry)) .inputs + 1) (now (signals .entry)))) r (under (N·Network .netlist (now (to .exit))) (N·Network .netlist (now (from .entry)) .inputs + 1 + length (N·Network .netlist (now (from .entry)) .rows)) (now (signals .exit))) ⌝ }
+    ensures same { λ _. ⌜ N·Network .places (now (to .exit)) ≡ N·Network .places (now (to .entry)) ⌝ }
+{
+    let inputs = from.input_count();
+    for k in 0..from.row_count() {
+        let row = from.row(k)?;
+        let made = inputs + 1 + k;
+        copy_next(row, marks[made], to, signals, made)?;
+    }
+    Ok(())
+}
