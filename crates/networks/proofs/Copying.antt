@@ -2,10 +2,12 @@
 use Prim.Native.Nat.{ℕ, _+_, _<_, _≤_}
 use mathlib.Core.Path.{_≡_, refl, sym, _∙_, ap, ap₂, subst}
 use mathlib.Core.Bool.{Bool, true, false}
-use mathlib.Core.List.{List, [], _∷_, _++_}
+use mathlib.Core.List.{List, [], _∷_, _++_, map}
 use native.Mathlib.Omega.{arith}
 use lib.ListN.{length, getD, take, drop, set}
 use Rattle.std.proofs.shelf.Lists.{getD-past, getD-take, length-take-le, take-more-set, at-drop-more, at-drop-all}
+use Rattle.std.specs.Iters.{counting}
+use Rattle.std.proofs.shelf.Counted.{map-counting-more}
 use Rattle.std.specs.declared.result.Result.{Result}
 use Rattle.std.specs.declared.result.Result.the-variants.{Ok, Err}
 use Rattle.classes.specs.declared.Ownership.{Ownership}
@@ -15,9 +17,9 @@ use Rattle.netlists.specs.declared.Row.{Row}
 use Rattle.netlists.specs.declared.Fanins.{Fanins}
 use Rattle.netlists.specs.declared.Refusal.{Refusal}
 use Rattle.netlists.specs.Netlists.{Netlist}
-use Rattle.netlists.specs.Placing.{noRow, noSignal, Placing, afterPlace, rowAsked}
-use Rattle.netlists.specs.Copies.{Copy, faninsIn, andThen, noted, placeNext, copyRow, copyRows}
-use Rattle.netlists.proofs.Ways.{taken, passed, row-there}
+use Rattle.netlists.specs.Placing.{noRow, noSignal, Placing, afterPlace, rowAsked, outputAsked, afterOutput}
+use Rattle.netlists.specs.Copies.{Copy, faninsIn, andThen, noted, placeNext, copyRow, copyRows, through, copyOutputs, fresh}
+use Rattle.netlists.proofs.Ways.{taken, passed, row-there, output-there}
 use Rattle.networks.specs.Copying.{Due, under}
 
 pub is-no-signal : (s : Signal) (n : Node) → s .node ≡ n → n .number ≡ 0 → s .inverted ≡ false → s ≡ noSignal
@@ -107,3 +109,48 @@ pub loop-end : (o : Ownership) (p i k : ℕ) (kept : ℕ → Bool) (rows : List 
     → k ≡ length rows → copyRows o p kept (drop k rows) (under n (i + 1 + k) ss) ≡ total → total ≡ Ok (under n (i + 1 + length rows) ss)
 loop-end o p i k kept rows n ss total e inv =
     rows-end o p kept rows total k (under n (i + 1 + k) ss) (omega arith) inv ∙ ap (λ (y : ℕ). Ok (under n (i + 1 + y) ss)) e
+
+-- ---- node 0 and the inputs
+
+abbrev pub plain : ℕ → Signal
+plain m = record { node = record { number = m }; inverted = false }
+
+pub is-plain : (s : Signal) (n : Node) (k : ℕ) → s .node ≡ n → n .number ≡ k → s .inverted ≡ false → s ≡ plain k
+is-plain s n k a b c =
+    ap₂ (λ (x : Node) (i : Bool). record { node = x; inverted = i }) (a ∙ ap (λ (m : ℕ). record { number = m }) b) c
+
+pub first-more : (ss : List Signal) (k : ℕ) (s : Signal) → k < length ss → take k ss ≡ map plain (counting 0 k) → s ≡ plain k → take (k + 1) (set ss k s) ≡ map plain (counting 0 (k + 1))
+first-more ss k s h e p =
+    take-more-set ss k s h ∙ ap₂ (λ (xs : List Signal) (x : Signal). xs ++ x ∷ []) e p ∙ sym (map-counting-more plain 0 k k (omega arith))
+
+pub first-all : (i : ℕ) → map plain (counting 0 (i + 1)) ≡ fresh i .signals
+unfolding fresh
+first-all i = refl
+
+-- ---- outputs
+
+pub output-read : (n : Netlist) (k : ℕ) (s : Signal) → k < length (n .outputs) → Ok s ≡ outputAsked n k → s ≡ getD (n .outputs) k noSignal
+output-read n k s h e = let p = output-there n k h in cc
+
+module _ (sig : List Signal) (outs : List Signal) (total : Result Netlist Refusal) where
+  abbrev at : Netlist → Copy
+  at n = record { netlist = n; signals = sig }
+
+  out-rest : (k : ℕ) (n : Netlist) (s t : Signal) → k < length outs → s ≡ getD outs k noSignal → t ≡ through sig s → copyOutputs (drop k outs) (at n) ≡ total
+      → andThen (afterOutput n t) (λ m. copyOutputs (drop (k + 1) outs) (at m)) ≡ total
+  unfolding copyOutputs
+  out-rest k n s t h e f inv =
+      ap (λ (x : Signal). andThen (afterOutput n x) (λ m. copyOutputs (drop (k + 1) outs) (at m))) (f ∙ ap (through sig) e)
+      ∙ sym (at-drop-more (λ ss. copyOutputs ss (at n)) outs k noSignal h) ∙ inv
+
+  pub out-err : (k : ℕ) (n : Netlist) (s t : Signal) (e : Refusal) → k < length outs → s ≡ getD outs k noSignal → t ≡ through sig s → copyOutputs (drop k outs) (at n) ≡ total
+      → afterOutput n t ≡ Err e → total ≡ Err e
+  out-err k n s t e h p f inv q = sym (out-rest k n s t h p f inv) ∙ ap (λ (x : Result Netlist Refusal). andThen x (λ m. copyOutputs (drop (k + 1) outs) (at m))) q
+
+  pub out-more : (k : ℕ) (n m : Netlist) (s t : Signal) → k < length outs → s ≡ getD outs k noSignal → t ≡ through sig s → copyOutputs (drop k outs) (at n) ≡ total
+      → afterOutput n t ≡ Ok m → copyOutputs (drop (k + 1) outs) (at m) ≡ total
+  out-more k n m s t h p f inv q = ap (λ (x : Result Netlist Refusal). andThen x (λ y. copyOutputs (drop (k + 1) outs) (at y))) (sym q) ∙ out-rest k n s t h p f inv
+
+  pub out-end : (k : ℕ) (n : Netlist) → length outs ≤ k → copyOutputs (drop k outs) (at n) ≡ total → total ≡ Ok n
+  unfolding copyOutputs
+  out-end k n h inv = sym inv ∙ at-drop-all (λ ss. copyOutputs ss (at n)) outs k h

@@ -3,9 +3,9 @@ ghost use mathlib.Core.Path.{_≡_};
 ghost use mathlib.Core.Bool.{Bool, false};
 ghost use Prim.Native.Nat.{ℕ, _+_, _<_, _≤_};
 ghost use lib.ListN.{length, getD, take};
-ghost use Rattle.netlists.specs.Netlists.{Netlist};
+ghost use Rattle.tables.specs.Bits.{inverted};
 ghost use Rattle.netlists.specs.Placing.{noSignal};
-ghost use Rattle.netlists.specs.Copies.{faninsIn, through, placeNext, copyRow, copyRows, copyOutputs};
+ghost use Rattle.netlists.specs.Copies.{faninsIn, through, placeNext, copyRow, copyRows, copyOutputs, fresh};
 ghost use Rattle.networks.specs.Copying.{Due, under, marked};
 use crate::Network;
 use netlists::Fanins;
@@ -76,6 +76,45 @@ fn copy_rows<N: Network>(from: &N, to: &mut N, marks: &[bool], signals: &mut [Si
         let row = from.row(k)?;
         let made = inputs + 1 + k;
         copy_next(row, marks[made], to, signals, made)?;
+    }
+    Ok(())
+}
+
+// Node 0 and the inputs stand for themselves.
+fn first_signals(signals: &mut [Signal], inputs: usize)
+    requires { ⌜ inputs ≤ 32 ⌝ ∗ ⌜ length (now signals) ≡ 577 ⌝ }
+    ensures { λ _. ⌜ take (inputs + 1) (now (signals .exit)) ≡ fresh inputs .signals ⌝ }
+{
+    for k in 0..inputs + 1 {
+        signals[k] = Node::new(k as u16).signal(false);
+    }
+}
+
+// `x`, inverted where `by` is true.
+fn invert_by(by: bool, x: bool) -> bool
+    ensures { λ r. ⌜ r ≡ inverted by x ⌝ }
+{
+    if by { !x } else { x }
+}
+
+// A signal of the copied network, as a signal of the copy.
+fn signal_through(signals: &[Signal], made: usize, signal: Signal) -> Signal
+    requires { ⌜ made ≤ length (now signals) ⌝ }
+    ensures { λ r. ⌜ r ≡ through (take made (now (signals .entry))) signal ⌝ }
+{
+    let new = signal_at(signals, made, signal.node());
+    new.node().signal(invert_by(signal.inverted(), new.inverted()))
+}
+
+// The outputs, in order.
+fn copy_outputs<N: Network>(from: &N, to: &mut N, signals: &[Signal], made: usize) -> Result<(), Refusal>
+    requires { ⌜ made ≤ length (now signals) ⌝ }
+    ensures copy { λ r. ⌜ Due (copyOutputs (N·Network .netlist (now (from .entry)) .outputs) (under (N·Network .netlist (now (to .entry))) made (now (signals .entry)))) r (N·Network .netlist (now (to .exit))) ⌝ }
+    ensures same { λ _. ⌜ N·Network .places (now (to .exit)) ≡ N·Network .places (now (to .entry)) ⌝ }
+{
+    for k in 0..from.output_count() {
+        let signal = from.output_signal(k)?;
+        to.output(signal_through(signals, made, signal))?;
     }
     Ok(())
 }
