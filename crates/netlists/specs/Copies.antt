@@ -101,13 +101,17 @@ keptBefore keep i (suc k) = keptBefore keep i k + cond (keep (i + 1 + k)) 1 0
 
 -- ---- whole netlists
 
+-- the rows of n that are kept, in order, into an empty network, and then the outputs
+abbrev pub copyKept : Ownership → ℕ → (ℕ → Bool) → Netlist → Result Netlist Refusal
+copyKept o places keep n = andThen (copyRows o places keep (n .rows) (fresh (n .inputs))) (copyOutputs (n .outputs))
+
 -- every row of n, in order, into an empty network
 unfoldable pub copied : Ownership → ℕ → Netlist → Result Netlist Refusal
-copied o places n = andThen (copyRows o places (λ k. true) (n .rows) (fresh (n .inputs))) (copyOutputs (n .outputs))
+copied o places n = copyKept o places (λ k. true) n
 
 -- the rows of n that some output reaches, in order, into an empty network
 unfoldable pub swept : Ownership → ℕ → Netlist → Result Netlist Refusal
-swept o places n = andThen (copyRows o places (reached n) (n .rows) (fresh (n .inputs))) (copyOutputs (n .outputs))
+swept o places n = copyKept o places (reached n) n
 
 -- how many rows some output reaches
 abbrev pub reachedRows : Netlist → ℕ

@@ -17,9 +17,9 @@ use Rattle.netlists.specs.declared.Row.{Row}
 use Rattle.netlists.specs.declared.Fanins.{Fanins}
 use Rattle.netlists.specs.declared.Refusal.{Refusal}
 use Rattle.netlists.specs.Netlists.{Netlist}
-use Rattle.netlists.specs.Placing.{noRow, noSignal, Placing, afterPlace, rowAsked, outputAsked, afterOutput}
-use Rattle.netlists.specs.Copies.{Copy, faninsIn, andThen, noted, placeNext, copyRow, copyRows, through, copyOutputs, fresh}
-use Rattle.netlists.proofs.Ways.{taken, passed, row-there, output-there}
+use Rattle.netlists.specs.Placing.{noRow, noSignal, Placing, afterPlace, rowAsked, outputAsked, afterOutput, empty, afterStart}
+use Rattle.netlists.specs.Copies.{Copy, faninsIn, andThen, noted, placeNext, copyRow, copyRows, through, copyOutputs, copyKept, fresh}
+use Rattle.netlists.proofs.Ways.{taken, passed, row-there, output-there, start-few}
 use Rattle.networks.specs.Copying.{Due, under}
 
 pub is-no-signal : (s : Signal) (n : Node) → s .node ≡ n → n .number ≡ 0 → s .inverted ≡ false → s ≡ noSignal
@@ -154,3 +154,29 @@ module _ (sig : List Signal) (outs : List Signal) (total : Result Netlist Refusa
   pub out-end : (k : ℕ) (n : Netlist) → length outs ≤ k → copyOutputs (drop k outs) (at n) ≡ total → total ≡ Ok n
   unfolding copyOutputs
   out-end k n h inv = sym inv ∙ at-drop-all (λ ss. copyOutputs ss (at n)) outs k h
+
+-- ---- rows and outputs
+
+fresh-is : (n : Netlist) (i : ℕ) (ss : List Signal) → afterStart i ≡ Ok n → i ≤ 32 → take (i + 1) ss ≡ fresh i .signals → under n (i + 1) ss ≡ fresh i
+unfolding fresh
+fresh-is n i ss e h s =
+    let p = start-few i h in
+    let q : n ≡ empty i = cc in
+    ap₂ (λ (x : Netlist) (xs : List Signal). record { netlist = x; signals = xs }) q s
+
+-- a copy is what its parts gave
+module _ (o : Ownership) (p q : ℕ) (kept : ℕ → Bool) (n m : Netlist) (i : ℕ) (ss : List Signal) (few : i ≤ 32) (same : i ≡ n .inputs) (places : q ≡ p)
+    (start : afterStart i ≡ Ok m) (first : take (i + 1) ss ≡ fresh i .signals) where
+  begun : copyRows o p kept (n .rows) (fresh (n .inputs)) ≡ copyRows o q kept (n .rows) (under m (n .inputs + 1) ss)
+  begun =
+      ap₂ (λ (x : ℕ) (c : Copy). copyRows o x kept (n .rows) c) (sym places)
+      (ap fresh (sym same) ∙ sym (fresh-is m i ss start few first) ∙ ap (λ (x : ℕ). under m (x + 1) ss) same)
+
+  pub kept-err : (e : Refusal) → copyRows o q kept (n .rows) (under m (n .inputs + 1) ss) ≡ Err e → copyKept o p kept n ≡ Err e
+  kept-err e h = ap (λ (x : Result Copy Refusal). andThen x (copyOutputs (n .outputs))) (begun ∙ h)
+
+  pub kept-ok : (d : Copy) → copyRows o q kept (n .rows) (under m (n .inputs + 1) ss) ≡ Ok d → copyKept o p kept n ≡ copyOutputs (n .outputs) d
+  kept-ok d h = ap (λ (x : Result Copy Refusal). andThen x (copyOutputs (n .outputs))) (begun ∙ h)
+
+pub outputs-at : (n m : Netlist) (ss : List Signal) (x y : ℕ) → x ≡ y → copyOutputs (n .outputs) (under m x ss) ≡ copyOutputs (n .outputs) (under m y ss)
+outputs-at n m ss x y e = ap (λ (k : ℕ). copyOutputs (n .outputs) (under m k ss)) e

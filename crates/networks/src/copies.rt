@@ -5,7 +5,7 @@ ghost use Prim.Native.Nat.{ℕ, _+_, _<_, _≤_};
 ghost use lib.ListN.{length, getD, take};
 ghost use Rattle.tables.specs.Bits.{inverted};
 ghost use Rattle.netlists.specs.Placing.{noSignal};
-ghost use Rattle.netlists.specs.Copies.{faninsIn, through, placeNext, copyRow, copyRows, copyOutputs, fresh};
+ghost use Rattle.netlists.specs.Copies.{faninsIn, through, placeNext, copyRow, copyRows, copyOutputs, copyKept, fresh};
 ghost use Rattle.networks.specs.Copying.{Due, under, marked};
 use crate::Network;
 use netlists::Fanins;
@@ -117,4 +117,18 @@ fn copy_outputs<N: Network>(from: &N, to: &mut N, signals: &[Signal], made: usiz
         to.output(signal_through(signals, made, signal))?;
     }
     Ok(())
+}
+
+// The rows that are marked, in order, and then the outputs, into a network that is emptied first.
+fn copy_marked<N: Network>(from: &N, to: &mut N, marks: &[bool]) -> Result<(), Refusal>
+    requires { ⌜ length (now marks) ≡ 577 ⌝ }
+    ensures copy { λ r. ⌜ Due (copyKept (N·Network .ownership) (N·Network .places (now (to .entry))) (marked (now (marks .entry))) (N·Network .netlist (now (from .entry)))) r (N·Network .netlist (now (to .exit))) ⌝ }
+    ensures same { λ _. ⌜ N·Network .places (now (to .exit)) ≡ N·Network .places (now (to .entry)) ⌝ }
+{
+    let inputs = from.input_count();
+    to.start(inputs)?;
+    let mut signals = [Node::new(0).signal(false); 577];
+    first_signals(&mut signals, inputs);
+    copy_rows(from, to, marks, &mut signals)?;
+    copy_outputs(from, to, &signals, inputs + 1 + from.row_count())
 }
