@@ -4,6 +4,7 @@ ghost use mathlib.Core.Bool.{Bool, false};
 ghost use Prim.Native.Nat.{ℕ, _+_, _<_, _≤_};
 ghost use lib.ListN.{length, getD, take};
 ghost use Rattle.tables.specs.Bits.{inverted};
+ghost use Rattle.std.specs.Results.{Cases};
 ghost use Rattle.netlists.specs.Placing.{noSignal};
 ghost use Rattle.netlists.specs.Copies.{faninsIn, through, placeNext, copyRow, copyRows, copyOutputs, copyKept, fresh};
 ghost use Rattle.networks.specs.Copying.{Due, under, marked};
@@ -120,7 +121,7 @@ fn copy_outputs<N: Network>(from: &N, to: &mut N, signals: &[Signal], made: usiz
 }
 
 // The rows that are marked, in order, and then the outputs, into a network that is emptied first.
-fn copy_marked<N: Network>(from: &N, to: &mut N, marks: &[bool]) -> Result<(), Refusal>
+pub(crate) fn copy_marked<N: Network>(from: &N, to: &mut N, marks: &[bool]) -> Result<(), Refusal>
     requires { ⌜ length (now marks) ≡ 577 ⌝ }
     ensures copy { λ r. ⌜ Due (copyKept (N·Network .ownership) (N·Network .places (now (to .entry))) (marked (now (marks .entry))) (N·Network .netlist (now (from .entry)))) r (N·Network .netlist (now (to .exit))) ⌝ }
     ensures same { λ _. ⌜ N·Network .places (now (to .exit)) ≡ N·Network .places (now (to .entry)) ⌝ }
@@ -131,4 +132,16 @@ fn copy_marked<N: Network>(from: &N, to: &mut N, marks: &[bool]) -> Result<(), R
     first_signals(&mut signals, inputs);
     copy_rows(from, to, marks, &mut signals)?;
     copy_outputs(from, to, &signals, inputs + 1 + from.row_count())
+}
+
+/// Copies a network into another of its kind, row by row: it comes out as itself. Refused, with nothing changed, where the
+/// rows are more than the places.
+pub fn copy_netlist<N: Network>(from: &N, to: &mut N) -> Result<(), Refusal>
+    ensures copy { λ r. ⌜ Cases r (λ _. N·Network .netlist (now (to .exit)) ≡ N·Network .netlist (now (from .entry))) (λ e. (e ≡ Refusal.NoPlace) × (N·Network .places (now (to .entry)) < length (N·Network .netlist (now (from .entry)) .rows)) × (now (to .exit) ≡ now (to .entry))) ⌝ }
+    ensures same { λ _. ⌜ N·Network .places (now (to .exit)) ≡ N·Network .places (now (to .entry)) ⌝ }
+{
+    if to.place_count() < from.row_count() {
+        return Err(Refusal::NoPlace);
+    }
+    copy_marked(from, to, &[true; 577])
 }
