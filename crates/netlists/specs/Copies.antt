@@ -48,8 +48,8 @@ placeNext o places r c = andThen (afterPlace o places (c .netlist) (r .table) (f
 unfoldable pub copyRow : Ownership → ℕ → (ℕ → Bool) → Row → Copy → Result Copy Refusal
 copyRow o places keep r c =
     elim (keep (length (c .signals))) [
-      true ↦ placeNext o places r c
-    | false ↦ Ok (skipped c)
+      | true ↦ placeNext o places r c
+      | false ↦ Ok (skipped c)
     ]
 
 -- the rows that are kept, in order

@@ -4,6 +4,8 @@ use mathlib.Core.Path.{_≡_, refl, sym, _∙_, ap, ap₂, subst}
 use mathlib.Core.Bool.{Bool, true, false, cond}
 use mathlib.Core.List.{List, [], _∷_, _++_, map}
 use native.Mathlib.Omega.{arith}
+use native.Mathlib.Nat.{add-zero}
+use native.Mathlib.Numerals.{add-one}
 use lib.ListN.{length, getD}
 use Rattle.std.specs.Results.{Cases}
 use Rattle.std.specs.Iters.{counting}
@@ -51,7 +53,7 @@ rows-same o places bound keep kept h [] c l = refl
 rows-same o places bound keep kept h (r ∷ rs) c l =
     ap (λ (b : Bool). andThen (elim b [ true ↦ placeNext o places r c | false ↦ Ok (skipped c) ]) (copyRows o places keep rs)) (h (length (c .signals)) (omega arith))
     ∙ then-same (copyRow o places kept r c) (copyRows o places keep rs) (copyRows o places kept rs)
-      (λ d e. let g = subst (Longer c) e (row-longer o places kept r c) in rows-same o places bound keep kept h rs d (omega (arith, g)))
+    (λ d e. let g = subst (Longer c) e (row-longer o places kept r c) in rows-same o places bound keep kept h rs d (omega (arith, g)))
 
 fresh-length : (i : ℕ) → length (fresh i .signals) ≡ i + 1
 unfolding fresh
@@ -78,3 +80,35 @@ whole-copy o places size n bs r x Q law room all h =
     let s = law .few-places in
     accepted (copyKept o places (marked bs) n) r x n Q
     (kept-same o places 577 (marked bs) (λ k. true) n all (omega arith) ∙ copy-itself o places size n law room) h
+
+-- ---- the rows that outputs reach
+
+pub before-same : (keep kept : ℕ → Bool) → ((m : ℕ) → keep m ≡ kept m) → (i k : ℕ) → keptBefore keep i k ≡ keptBefore kept i k
+before-same keep kept h i zero = refl
+before-same keep kept h i (suc k) = ap₂ (λ (x : ℕ) (b : Bool). x + cond b 1 0) (before-same keep kept h i k) (h (i + 1 + k))
+
+pub before-hit : (keep : ℕ → Bool) (i a k : ℕ) → a ≡ i + 1 + k → keep a ≡ true → keptBefore keep i (k + 1) ≡ keptBefore keep i k + 1
+before-hit keep i a k e h = ap (keptBefore keep i) (add-one k) ∙ ap (λ (b : Bool). keptBefore keep i k + cond b 1 0) (ap keep (sym e) ∙ h)
+
+pub before-miss : (keep : ℕ → Bool) (i a k : ℕ) → a ≡ i + 1 + k → keep a ≡ false → keptBefore keep i (k + 1) ≡ keptBefore keep i k
+before-miss keep i a k e h = ap (keptBefore keep i) (add-one k) ∙ ap (λ (b : Bool). keptBefore keep i k + cond b 1 0) (ap keep (sym e) ∙ h) ∙ add-zero (keptBefore keep i k)
+
+chosen : {B : Type 0} (o : Ownership) (places : ℕ) (n : Netlist) (due : Result Netlist Refusal) (r : Result B Refusal) (x y : Netlist) (Q : Refusal → Type 0)
+    → due ≡ swept o places n → swept o places n ≡ Ok y → Swept n y → Due due r x → Cases r (λ _. (swept o places n ≡ Ok x) × Swept n x) Q
+chosen o places n due (Ok u) x y Q p e s h =
+    let q : swept o places n ≡ Ok x = cc in
+    let w : y ≡ x = cc in
+    (q, subst (Swept n) w s)
+chosen o places n due (Err d) x y Q p e s h = never y d due (p ∙ e) h
+
+is-swept : (o : Ownership) (places : ℕ) (n : Netlist) (bs : List Bool) → ((m : ℕ) → marked bs m ≡ reached n m) → copyKept o places (marked bs) n ≡ swept o places n
+unfolding swept
+is-swept o places n bs all = kept-same o places (n .inputs + 1 + length (n .rows)) (marked bs) (reached n) n (λ m h. all m) (omega arith)
+
+pub swept-copy : {B : Type 0} (o : Ownership) (places size : ℕ) (n : Netlist) (bs : List Bool) (r : Result B Refusal) (x : Netlist) (Q : Refusal → Type 0)
+    → Lawful o size n → keptBefore (marked bs) (n .inputs) (length (n .rows)) ≤ places → ((m : ℕ) → marked bs m ≡ reached n m) → Due (copyKept o places (marked bs) n) r x
+    → Cases r (λ _. (swept o places n ≡ Ok x) × Swept n x) Q
+swept-copy o places size n bs r x Q law room all h =
+    let c = before-same (marked bs) (reached n) all (n .inputs) (length (n .rows)) in
+    let s = sweep-swept o places size n law (omega arith) in
+    chosen o places n (copyKept o places (marked bs) n) r x (s .0) Q (is-swept o places n bs all) (s .1) (s .2) h

@@ -5,7 +5,7 @@ use mathlib.Core.Bool.{Bool, true, false, cond}
 use mathlib.Core.List.{List, [], _∷_, _++_}
 use native.Mathlib.Omega.{arith}
 use lib.Dec.{leb}
-use lib.ListN.{length, getD, drop}
+use lib.ListN.{length, getD, drop, replicate}
 use Rattle.std.specs.declared.result.Result.{Result}
 use Rattle.std.specs.declared.result.Result.the-variants.{Ok, Err}
 use Rattle.std.proofs.shelf.Lists.{drop-all, drop-more}
@@ -69,9 +69,9 @@ rows-claimed bs rows i a k j r ws h e p q m =
     let num : i + 1 + k ≡ suc (i + 1 + j) = omega arith in
     subst (λ (rs : List Row). Marks bs (claims (i + 1 + j) rs ws)) (sym (drop-more rows j noRow h))
     (subst (λ (x : Row). Marks bs (claim (i + 1 + j) x (claims (suc (i + 1 + j)) (drop (j + 1) rows) ws))) p
-      (subst (λ (x : ℕ). Marks bs (claim x r (claims (suc (i + 1 + j)) (drop (j + 1) rows) ws))) q
-        (subst (λ (x : ℕ). Marks bs (claim a r (claims x (drop (j + 1) rows) ws))) num
-          (subst (λ (x : ℕ). Marks bs (claim a r (claims (i + 1 + k) (drop x rows) ws))) e m))))
+    (subst (λ (x : ℕ). Marks bs (claim x r (claims (suc (i + 1 + j)) (drop (j + 1) rows) ws))) q
+    (subst (λ (x : ℕ). Marks bs (claim a r (claims x (drop (j + 1) rows) ws))) num
+    (subst (λ (x : ℕ). Marks bs (claim a r (claims (i + 1 + k) (drop x rows) ws))) e m))))
 
 pub row-small : (o : Ownership) (places : ℕ) (n : Netlist) → Lawful o places n → (k : ℕ) → k < length (n .rows) → (r : Row) → r ≡ getD (n .rows) k noRow → (v : Variable) → nodeAt r v .number < 577
 row-small o places n law k h r e v =
@@ -80,3 +80,9 @@ row-small o places n law k h r e v =
     let b = law .room in
     let c = law .few-places in
     subst (λ (x : Row). nodeAt x v .number < 577) (sym e) (omega (arith, t))
+
+-- nothing is marked at first
+pub none-marked : (n m : ℕ) → getD (replicate n false) m false ≡ false
+none-marked zero m = refl
+none-marked (suc n) zero = refl
+none-marked (suc n) (suc m) = none-marked n m

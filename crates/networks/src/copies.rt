@@ -42,7 +42,12 @@ fn fanins_at(signals: &[Signal], made: usize, row: Row) -> Fanins
 }
 
 // Places a row over the signals of its nodes; the answer stands for the row's node.
-fn copy_row<N: Network>(row: Row, to: &mut N, signals: &mut [Signal], made: usize) -> Result<(), Refusal>
+fn copy_row<N: Network>(
+    row: Row,
+    to: &mut N,
+    signals: &mut [Signal],
+    made: usize,
+) -> Result<(), Refusal>
     requires { ⌜ made < length (now signals) ⌝ }
     ensures copy { λ r. ⌜ Due (placeNext (N·Network .ownership) (N·Network .places (now (to .entry))) row (under (N·Network .netlist (now (to .entry))) made (now (signals .entry)))) r (under (N·Network .netlist (now (to .exit))) (made + 1) (now (signals .exit))) ⌝ }
     ensures kept { λ _. ⌜ N·Network .places (now (to .exit)) ≡ N·Network .places (now (to .entry)) ⌝ }
@@ -54,7 +59,13 @@ fn copy_row<N: Network>(row: Row, to: &mut N, signals: &mut [Signal], made: usiz
 }
 
 // The next row: placed where it is kept, else left out, with signal 0 in its place.
-fn copy_next<N: Network>(row: Row, keep: bool, to: &mut N, signals: &mut [Signal], made: usize) -> Result<(), Refusal>
+fn copy_next<N: Network>(
+    row: Row,
+    keep: bool,
+    to: &mut N,
+    signals: &mut [Signal],
+    made: usize,
+) -> Result<(), Refusal>
     requires { ⌜ made < length (now signals) ⌝ }
     ensures copy { λ r. ⌜ ((kept : ℕ → Bool) → kept made ≡ keep → Due (copyRow (N·Network .ownership) (N·Network .places (now (to .entry))) kept row (under (N·Network .netlist (now (to .entry))) made (now (signals .entry)))) r (under (N·Network .netlist (now (to .exit))) (made + 1) (now (signals .exit)))) ⌝ }
     ensures same { λ _. ⌜ N·Network .places (now (to .exit)) ≡ N·Network .places (now (to .entry)) ⌝ }
@@ -67,7 +78,12 @@ fn copy_next<N: Network>(row: Row, keep: bool, to: &mut N, signals: &mut [Signal
 }
 
 // The rows that are marked, in order, into a network that has as many inputs and signals for them.
-fn copy_rows<N: Network>(from: &N, to: &mut N, marks: &[bool], signals: &mut [Signal]) -> Result<(), Refusal>
+fn copy_rows<N: Network>(
+    from: &N,
+    to: &mut N,
+    marks: &[bool],
+    signals: &mut [Signal],
+) -> Result<(), Refusal>
     requires { ⌜ length (now marks) ≡ 577 ⌝ ∗ ⌜ length (now signals) ≡ 577 ⌝ }
     ensures copy { λ r. ⌜ Due (copyRows (N·Network .ownership) (N·Network .places (now (to .entry))) (marked (now (marks .entry))) (N·Network .netlist (now (from .entry)) .rows) (under (N·Network .netlist (now (to .entry))) (N·Network .netlist (now (from .entry)) .inputs + 1) (now (signals .entry)))) r (under (N·Network .netlist (now (to .exit))) (N·Network .netlist (now (from .entry)) .inputs + 1 + length (N·Network .netlist (now (from .entry)) .rows)) (now (signals .exit))) ⌝ }
     ensures same { λ _. ⌜ N·Network .places (now (to .exit)) ≡ N·Network .places (now (to .entry)) ⌝ }
@@ -104,11 +120,17 @@ fn signal_through(signals: &[Signal], made: usize, signal: Signal) -> Signal
     ensures { λ r. ⌜ r ≡ through (take made (now (signals .entry))) signal ⌝ }
 {
     let new = signal_at(signals, made, signal.node());
-    new.node().signal(invert_by(signal.inverted(), new.inverted()))
+    new.node()
+        .signal(invert_by(signal.inverted(), new.inverted()))
 }
 
 // The outputs, in order.
-fn copy_outputs<N: Network>(from: &N, to: &mut N, signals: &[Signal], made: usize) -> Result<(), Refusal>
+fn copy_outputs<N: Network>(
+    from: &N,
+    to: &mut N,
+    signals: &[Signal],
+    made: usize,
+) -> Result<(), Refusal>
     requires { ⌜ made ≤ length (now signals) ⌝ }
     ensures copy { λ r. ⌜ Due (copyOutputs (N·Network .netlist (now (from .entry)) .outputs) (under (N·Network .netlist (now (to .entry))) made (now (signals .entry)))) r (N·Network .netlist (now (to .exit))) ⌝ }
     ensures same { λ _. ⌜ N·Network .places (now (to .exit)) ≡ N·Network .places (now (to .entry)) ⌝ }

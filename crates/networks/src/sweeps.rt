@@ -67,3 +67,51 @@ fn mark_rows<N: Network>(net: &N, marks: &mut [bool])
         }
     }
 }
+
+// Marks every node that some output reaches.
+fn mark_reached<N: Network>(net: &N, marks: &mut [bool])
+    requires { ⌜ length (now marks) ≡ 577 ⌝ ∗ ⌜ Marks (now marks) [] ⌝ }
+    ensures { λ _. ⌜ ((m : ℕ) → marked (now (marks .exit)) m ≡ reached (N·Network .netlist (now (net .entry))) m) ⌝ }
+{
+    mark_outputs(net, marks);
+    mark_rows(net, marks);
+}
+
+// How many rows stand at marked nodes.
+fn count_marked<N: Network>(net: &N, marks: &[bool]) -> usize
+    requires { ⌜ length (now marks) ≡ 577 ⌝ }
+    ensures { λ r. ⌜ r ≡ keptBefore (marked (now (marks .entry))) (N·Network .netlist (now (net .entry)) .inputs) (length (N·Network .netlist (now (net .entry)) .rows)) ⌝ }
+{
+    let inputs = net.input_count();
+    let mut count = 0;
+    for k in 0..net.row_count() {
+        if marks[inputs + 1 + k] {
+            count += 1;
+        }
+    }
+    count
+}
+
+/// How many rows some output reaches.
+pub fn count_reached<N: Network>(net: &N) -> usize
+    ensures { λ r. ⌜ r ≡ reachedRows (N·Network .netlist (now (net .entry))) ⌝ }
+{
+    let mut marks = [false; 577];
+    mark_reached(net, &mut marks);
+    count_marked(net, &marks)
+}
+
+/// The sweep: the rows that some output reaches, in order, into another network of the kind, and then the outputs. Every
+/// output keeps its value for every setting of the inputs, and there are as many rows as were reached. Refused, with
+/// nothing changed, where those are more than the places.
+pub fn sweep<N: Network>(from: &N, to: &mut N) -> Result<(), Refusal>
+    ensures copy { λ r. ⌜ Cases r (λ _. (swept (N·Network .ownership) (N·Network .places (now (to .entry))) (N·Network .netlist (now (from .entry))) ≡ Ok (N·Network .netlist (now (to .exit)))) × Swept (N·Network .netlist (now (from .entry))) (N·Network .netlist (now (to .exit)))) (λ e. (e ≡ Refusal.NoPlace) × (N·Network .places (now (to .entry)) < reachedRows (N·Network .netlist (now (from .entry)))) × (now (to .exit) ≡ now (to .entry))) ⌝ }
+    ensures same { λ _. ⌜ N·Network .places (now (to .exit)) ≡ N·Network .places (now (to .entry)) ⌝ }
+{
+    let mut marks = [false; 577];
+    mark_reached(from, &mut marks);
+    if to.place_count() < count_marked(from, &marks) {
+        return Err(Refusal::NoPlace);
+    }
+    copy_marked(from, to, &marks)
+}

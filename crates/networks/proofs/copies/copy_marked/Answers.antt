@@ -26,7 +26,7 @@ returns-in-Break-copy-rows g c =
     let p = err-from-errBy (c .from-residual-in-Break-copy-rows .result) (c .from-residual-in-Break-copy-rows .ensures .1) in
     record {
       copy = err-due _ (c .from-residual-in-Break-copy-rows .result) _ (c .in-Break-copy-rows .field-0 .0) (p .1 ∙ ap Err (p .2))
-        (kept-err _ _ _ _ n _ i (c .first-signals .last .signals) few (c .input-count-inputs .ensures) (c .in-Continue-start .ensures tt .kept) (c .in-Continue-start .ensures tt .answer)
+          (kept-err _ _ _ _ n _ i (c .first-signals .last .signals) few (c .input-count-inputs .ensures) (c .in-Continue-start .ensures tt .kept) (c .in-Continue-start .ensures tt .answer)
           (c .first-signals .ensures) (c .in-Break-copy-rows .field-0 .0) (c .in-Break-copy-rows .ensures tt .copy));
       same = c .in-Break-copy-rows .ensures tt .same ∙ c .in-Continue-start .ensures tt .kept;
     }
@@ -40,9 +40,9 @@ returns g c =
     let made : n .inputs + 1 + length (n .rows) ≡ i + 1 + c .row-count .result = omega (arith, c .input-count-inputs .ensures, c .row-count .ensures) in
     record {
       copy = due-same _ _ (c .copy-outputs .result) _
-        (kept-ok _ _ _ _ n _ i (c .first-signals .last .signals) few (c .input-count-inputs .ensures) (c .in-Continue-start .ensures tt .kept) (c .in-Continue-start .ensures tt .answer)
+          (kept-ok _ _ _ _ n _ i (c .first-signals .last .signals) few (c .input-count-inputs .ensures) (c .in-Continue-start .ensures tt .kept) (c .in-Continue-start .ensures tt .answer)
           (c .first-signals .ensures) _ (c .in-Continue-copy-rows .ensures tt .copy)
-        ∙ outputs-at n _ (c .copy-rows .last .signals) _ _ made)
-        (c .copy-outputs .ensures .copy);
+          ∙ outputs-at n _ (c .copy-rows .last .signals) _ _ made)
+          (c .copy-outputs .ensures .copy);
       same = c .copy-outputs .ensures .same ∙ c .in-Continue-copy-rows .ensures tt .same ∙ c .in-Continue-start .ensures tt .kept;
     }

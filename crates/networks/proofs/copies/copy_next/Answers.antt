@@ -11,7 +11,7 @@ returns-then-keep g c = record {
 pub returns : need.returns
 returns g c = record {
   copy = λ kept e.
-    next-left _ _ (c .args .made) _ (c .args .signals .now) (c .args .row) (c .signal .result) kept (c .pre) (e ∙ c .if-keep .left)
-    (is-no-signal (c .signal .result) (c .new .result) (c .signal .ensures .node) (c .new .ensures) (c .signal .ensures .inverted));
+      next-left _ _ (c .args .made) _ (c .args .signals .now) (c .args .row) (c .signal .result) kept (c .pre) (e ∙ c .if-keep .left)
+      (is-no-signal (c .signal .result) (c .new .result) (c .signal .ensures .node) (c .new .ensures) (c .signal .ensures .inverted));
   same = refl;
 }

@@ -25,7 +25,7 @@ returns-in-Break-output g c =
     let p = err-from-errBy (c .from-residual-in-Break-output .result) (c .from-residual-in-Break-output .ensures .1) in
     record {
       copy = err-due _ (c .from-residual-in-Break-output .result) _ (c .in-Break-output .field-0 .0) (p .1 ∙ ap Err (p .2))
-        (out-err (take (c .args .made) (c .args .signals .now)) (n .outputs) _ k _ (c .in-Continue-signal .signal) (c .signal-through .result) (c .in-Break-output .field-0 .0)
+          (out-err (take (c .args .made) (c .args .signals .now)) (n .outputs) _ k _ (c .in-Continue-signal .signal) (c .signal-through .result) (c .in-Break-output .field-0 .0)
           lt s (c .signal-through .ensures) (c .loop-k .inv .1) (c .in-Break-output .ensures tt .answer .0));
       same = c .in-Break-output .ensures tt .kept ∙ c .loop-k .inv .0;
     }
@@ -35,10 +35,11 @@ loop-k-again g c =
     let n = g .N·Network .netlist (c .args .from .now) in
     let k = c .loop-k .k in
     let lt : k < length (n .outputs) = omega arith in
-    let s = output-read n k (c .in-Continue-signal .signal) lt (c .in-Continue-signal .ensures tt) in
-    (c .in-Continue-output .ensures tt .kept ∙ c .loop-k .inv .0,
-     out-more (take (c .args .made) (c .args .signals .now)) (n .outputs) _ k _ _ (c .in-Continue-signal .signal) (c .signal-through .result)
-       lt s (c .signal-through .ensures) (c .loop-k .inv .1) (c .in-Continue-output .ensures tt .answer))
+    let s = output-read n k (c .in-Continue-signal .signal) lt (c .in-Continue-signal .ensures tt) in (
+      c .in-Continue-output .ensures tt .kept ∙ c .loop-k .inv .0,
+      out-more (take (c .args .made) (c .args .signals .now)) (n .outputs) _ k _ _ (c .in-Continue-signal .signal) (c .signal-through .result)
+          lt s (c .signal-through .ensures) (c .loop-k .inv .1) (c .in-Continue-output .ensures tt .answer),
+    )
 
 pub returns : need.returns
 returns g c =

@@ -9,4 +9,4 @@ abbrev pub Inv-loop-k : given.InvT-loop-k
 Inv-loop-k g l =
     (g .N·Network .places (l .to) ≡ g .N·Network .places (l .entry .to))
     × (copyOutputs (drop (l .k) (g .N·Network .netlist (l .from) .outputs)) (under (g .N·Network .netlist (l .to)) (l .made) (l .signals))
-      ≡ copyOutputs (g .N·Network .netlist (l .from) .outputs) (under (g .N·Network .netlist (l .entry .to)) (l .made) (l .signals)))
+    ≡ copyOutputs (g .N·Network .netlist (l .from) .outputs) (under (g .N·Network .netlist (l .entry .to)) (l .made) (l .signals)))

@@ -27,7 +27,7 @@ returns-in-Break-copy-next g c =
     let p = err-from-errBy (c .from-residual-in-Break-copy-next .result) (c .from-residual-in-Break-copy-next .ensures .1) in
     record {
       copy = err-due _ (c .from-residual-in-Break-copy-next .result) _ (c .in-Break-copy-next .field-0 .0) (p .1 ∙ ap Err (p .2))
-        (loop-err _ _ _ _ _ k _ (n .rows) _ _ (c .in-Continue-row .row) _ (c .in-Break-copy-next .field-0 .0) (c .loop-k .inv .0) (c .input-count-inputs .ensures) lt r (c .loop-k .inv .1) next);
+          (loop-err _ _ _ _ _ k _ (n .rows) _ _ (c .in-Continue-row .row) _ (c .in-Break-copy-next .field-0 .0) (c .loop-k .inv .0) (c .input-count-inputs .ensures) lt r (c .loop-k .inv .1) next);
       same = c .in-Break-copy-next .ensures tt .same ∙ c .loop-k .inv .0;
     }
 
@@ -37,9 +37,10 @@ loop-k-again g c =
     let k = c .loop-k .k in
     let lt : k < length (n .rows) = omega arith in
     let r = row-read n k (c .in-Continue-row .row) lt (c .in-Continue-row .ensures tt) in
-    let next = c .in-Continue-copy-next .ensures tt .copy (marked (c .args .marks .now)) refl in
-    (c .in-Continue-copy-next .ensures tt .same ∙ c .loop-k .inv .0,
-     loop-more _ _ _ _ _ k _ (n .rows) _ _ _ _ (c .in-Continue-row .row) _ (c .loop-k .inv .0) (c .input-count-inputs .ensures) lt r (c .loop-k .inv .1) next)
+    let next = c .in-Continue-copy-next .ensures tt .copy (marked (c .args .marks .now)) refl in (
+      c .in-Continue-copy-next .ensures tt .same ∙ c .loop-k .inv .0,
+      loop-more _ _ _ _ _ k _ (n .rows) _ _ _ _ (c .in-Continue-row .row) _ (c .loop-k .inv .0) (c .input-count-inputs .ensures) lt r (c .loop-k .inv .1) next,
+    )
 
 pub returns : need.returns
 returns g c =

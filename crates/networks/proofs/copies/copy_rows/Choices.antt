@@ -10,6 +10,6 @@ abbrev pub Inv-loop-k : given.InvT-loop-k
 Inv-loop-k g l =
     (g .N·Network .places (l .to) ≡ g .N·Network .places (l .entry .to))
     × (copyRows (g .N·Network .ownership) (g .N·Network .places (l .entry .to)) (marked (l .marks)) (drop (l .k) (g .N·Network .netlist (l .from) .rows))
-        (under (g .N·Network .netlist (l .to)) (g .N·Network .netlist (l .from) .inputs + 1 + l .k) (l .signals))
-      ≡ copyRows (g .N·Network .ownership) (g .N·Network .places (l .entry .to)) (marked (l .marks)) (g .N·Network .netlist (l .from) .rows)
-        (under (g .N·Network .netlist (l .entry .to)) (g .N·Network .netlist (l .from) .inputs + 1) (l .entry .signals)))
+    (under (g .N·Network .netlist (l .to)) (g .N·Network .netlist (l .from) .inputs + 1 + l .k) (l .signals))
+    ≡ copyRows (g .N·Network .ownership) (g .N·Network .places (l .entry .to)) (marked (l .marks)) (g .N·Network .netlist (l .from) .rows)
+    (under (g .N·Network .netlist (l .entry .to)) (g .N·Network .netlist (l .from) .inputs + 1) (l .entry .signals)))

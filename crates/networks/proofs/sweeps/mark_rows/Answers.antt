@@ -27,9 +27,10 @@ claim-row-requires g c κs =
     let lt : k < length (n .rows) = omega arith in
     let r = row-read n k (c .in-Ok .row) lt (c .in-Ok .ensures tt) in
     let small = row-small _ _ n law k lt (c .in-Ok .row) r in
-    let p = c .pre in
-    (omega (arith, law .few-inputs, law .room, law .few-places),
-     (omega (arith, small V0), (omega (arith, small V1), (omega (arith, small V2), omega (arith, small V3)))))
+    let p = c .pre in (
+      omega (arith, law .few-inputs, law .room, law .few-places),
+      (omega (arith, small V0), (omega (arith, small V1), (omega (arith, small V2), omega (arith, small V3)))),
+    )
 
 pub loop-k-again-in-Ok : need.loop-k-again-in-Ok
 loop-k-again-in-Ok g c =
@@ -40,7 +41,7 @@ loop-k-again-in-Ok g c =
     let e : k ≡ k - 1 + 1 = omega arith in
     let at : c .input-count-inputs .result + 1 + (k - 1) ≡ n .inputs + 1 + (k - 1) = omega arith in
     λ ws h. rows-claimed (c .claim-row .last .marks) (n .rows) (n .inputs) (c .input-count-inputs .result + 1 + (k - 1)) k (k - 1) (c .in-Ok .row) ws lt e r at
-      (c .claim-row .ensures (claims (n .inputs + 1 + k) (drop k (n .rows)) ws) (c .loop-k .inv ws h))
+    (c .claim-row .ensures (claims (n .inputs + 1 + k) (drop k (n .rows)) ws) (c .loop-k .inv ws h))
 
 pub loop-k-again : need.loop-k-again
 loop-k-again g c =
@@ -55,5 +56,5 @@ returns g c =
     let z : c .loop-k .k ≡ 0 = omega arith in
     let one : n .inputs + 1 + c .loop-k .k ≡ n .inputs + 1 = omega arith in
     λ ws h.
-      subst (λ (b : ℕ). Marks (c .loop-k .marks) (claims b (n .rows) ws)) one
-      (subst (λ (k : ℕ). Marks (c .loop-k .marks) (claims (n .inputs + 1 + c .loop-k .k) (drop k (n .rows)) ws)) z (c .loop-k .inv ws h))
+    subst (λ (b : ℕ). Marks (c .loop-k .marks) (claims b (n .rows) ws)) one
+    (subst (λ (k : ℕ). Marks (c .loop-k .marks) (claims (n .inputs + 1 + c .loop-k .k) (drop k (n .rows)) ws)) z (c .loop-k .inv ws h))

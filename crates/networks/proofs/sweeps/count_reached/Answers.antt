@@ -1,0 +1,15 @@
+use mathlib.Core.Path.{refl, _∙_}
+use lib.ListN.{length}
+use Rattle.netlists.specs.Copies.{reached}
+use Rattle.networks.specs.Copying.{marked}
+use Rattle.networks.proofs.Keeping.{before-same}
+use Rattle.networks.proofs.Marking.{none-marked}
+use Rattle.networks.proofs.sweeps.count_reached.Needs as need
+
+pub mark-reached-requires : need.mark-reached-requires
+mark-reached-requires g c κs = (refl, none-marked 577)
+
+pub returns : need.returns
+returns g c =
+    let n = g .N·Network .netlist (c .args .net .now) in
+    c .count-marked .ensures ∙ before-same (marked (c .mark-reached .last .marks)) (reached n) (c .mark-reached .ensures) (n .inputs) (length (n .rows))
