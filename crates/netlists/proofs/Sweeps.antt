@@ -226,12 +226,12 @@ claim-nodes k r ws h v = subst (λ (b : Bool). has (nodeAt r v .number) (elim b 
     go V2 = or-right (eqb (r .c .number) (r .a .number)) _ (or-right (eqb (r .c .number) (r .b .number)) _ (here (r .c .number) _))
     go V3 = or-right (eqb (r .d .number) (r .a .number)) _ (or-right (eqb (r .d .number) (r .b .number)) _ (or-right (eqb (r .d .number) (r .c .number)) _ (here (r .d .number) _)))
 
-claims-keeps : (m b : ℕ) (rs : List Row) (ws : List ℕ) → has m ws ≡ true → has m (claims b rs ws) ≡ true
+pub claims-keeps : (m b : ℕ) (rs : List Row) (ws : List ℕ) → has m ws ≡ true → has m (claims b rs ws) ≡ true
 unfolding claims
 claims-keeps m b [] ws h = h
 claims-keeps m b (r ∷ rs) ws h = claim-keeps m b r (claims (suc b) rs ws) (claims-keeps m (suc b) rs ws h)
 
-claims-nodes : (rs : List Row) (b : ℕ) (ws : List ℕ) → ((k : ℕ) → k < length rs → (v : Variable) → nodeAt (getD rs k noRow) v .number < b + k)
+pub claims-nodes : (rs : List Row) (b : ℕ) (ws : List ℕ) → ((k : ℕ) → k < length rs → (v : Variable) → nodeAt (getD rs k noRow) v .number < b + k)
     → (k : ℕ) → k < length rs → has (b + k) (claims b rs ws) ≡ true → (v : Variable) → has (nodeAt (getD rs k noRow) v .number) (claims b rs ws) ≡ true
 unfolding claims
 claims-nodes [] b ws early k h e v = absurd (not-suc-le-zero h)
@@ -248,7 +248,7 @@ claims-nodes (r ∷ rs) b ws early (suc k) h e v =
     (claims-nodes rs (suc b) ws (λ j l u. let g = early (suc j) (omega arith) u in omega (arith, g)) k (le-of-suc-le-suc h)
     (claim-new (suc b + k) b r w (λ u. let g = f u in omega (arith, g)) (subst (λ (x : ℕ). has x (claim b r w) ≡ true) z e)) v)
 
-output-has : (ss : List Signal) (k : ℕ) → k < length ss → has (getD ss k noSignal .node .number) (outputNodes ss) ≡ true
+pub output-has : (ss : List Signal) (k : ℕ) → k < length ss → has (getD ss k noSignal .node .number) (outputNodes ss) ≡ true
 unfolding outputNodes
 output-has [] k h = absurd (not-suc-le-zero h)
 output-has (s ∷ ss) zero h = or-left (eqb (s .node .number) (s .node .number)) _ (eq-eqb (s .node .number) (s .node .number) refl)

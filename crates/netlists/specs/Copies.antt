@@ -8,6 +8,7 @@ use lib.ListN.{length, getD}
 use Rattle.std.specs.Iters.{counting}
 use Rattle.std.specs.declared.result.Result.{Result}
 use Rattle.std.specs.declared.result.Result.the-variants.{Ok, Err}
+use Rattle.tables.specs.declared.Variable.{Variable}
 use Rattle.tables.specs.Bits.{inverted}
 use Rattle.classes.specs.declared.Ownership.{Ownership}
 use Rattle.netlists.specs.declared.Node.{Node}
@@ -16,7 +17,8 @@ use Rattle.netlists.specs.declared.Row.{Row}
 use Rattle.netlists.specs.declared.Fanins.{Fanins}
 use Rattle.netlists.specs.declared.Refusal.{Refusal}
 use Rattle.netlists.specs.Netlists.{Netlist, signalValue}
-use Rattle.netlists.specs.Placing.{noSignal, signalOf, Placing, afterPlace, empty, afterOutput}
+use Rattle.netlists.specs.Normal.{nodeAt}
+use Rattle.netlists.specs.Placing.{noRow, noSignal, signalOf, Placing, afterPlace, empty, afterOutput}
 
 -- a netlist under way, and the signal in it for each node of another, from node 0 on
 pub record Copy : Type 0 where
@@ -71,6 +73,11 @@ fresh i = record { netlist = empty i; signals = map (λ k. signalOf (record { nu
 
 -- ---- the rows that some output reaches
 
+-- an output reaches the node that it names, and what a row at a reached node reads
+pub data Reaches (n : Netlist) : ℕ → Type 0 where
+  named : (k : ℕ) → k < length (n .outputs) → Reaches n (getD (n .outputs) k noSignal .node .number)
+  read : (k : ℕ) → k < length (n .rows) → Reaches n (n .inputs + 1 + k) → (v : Variable) → Reaches n (nodeAt (getD (n .rows) k noRow) v .number)
+
 abbrev pub has : ℕ → List ℕ → Bool
 has k [] = false
 has k (x ∷ xs) = eqb k x || has k xs
@@ -93,6 +100,11 @@ outputNodes ss = map (λ s. s .node .number) ss
 -- some output reaches the node of this number
 unfoldable pub reached : Netlist → ℕ → Bool
 reached n k = has k (claims (n .inputs + 1) (n .rows) (outputNodes (n .outputs)))
+
+-- the nodes that are computed so are the ones that outputs reach
+pub record ReachedExactly (n : Netlist) : Type 0 where
+  pub sound : (m : ℕ) → reached n m ≡ true → Reaches n m
+  pub complete : (m : ℕ) → Reaches n m → reached n m ≡ true
 
 -- how many of the first k rows are kept, i inputs standing before them
 abbrev pub keptBefore : (ℕ → Bool) → ℕ → ℕ → ℕ

@@ -6,7 +6,7 @@ ghost use Prim.Native.Nat.{ℕ, _+_, _<_, _≤_};
 ghost use lib.ListN.{length, getD};
 ghost use Rattle.std.specs.Results.{Cases};
 ghost use Rattle.std.specs.declared.result.Result.the-variants.{Ok};
-ghost use Rattle.netlists.specs.Copies.{has, nodesOf, claim, claims, outputNodes, reached, keptBefore, swept, reachedRows, Swept};
+ghost use Rattle.netlists.specs.Copies.{has, nodesOf, claim, claims, outputNodes, reached, keptBefore, swept, reachedRows, ReachedExactly, Swept};
 ghost use Rattle.networks.specs.Copying.{marked, Marks};
 use crate::Network;
 use crate::copies::copy_marked;
@@ -92,9 +92,10 @@ fn count_marked<N: Network>(net: &N, marks: &[bool]) -> usize
     count
 }
 
-/// How many rows some output reaches.
+/// How many rows some output reaches: an output reaches the node that it names, and what a row at a reached node reads.
 pub fn count_reached<N: Network>(net: &N) -> usize
-    ensures { λ r. ⌜ r ≡ reachedRows (N·Network .netlist (now (net .entry))) ⌝ }
+    ensures count { λ r. ⌜ r ≡ reachedRows (N·Network .netlist (now (net .entry))) ⌝ }
+    ensures exact { λ _. ⌜ ReachedExactly (N·Network .netlist (now (net .entry))) ⌝ }
 {
     let mut marks = [false; 577];
     mark_reached(net, &mut marks);
