@@ -71,7 +71,7 @@ module _ (o : Ownership) (places : ℕ) (size : ℕ) (n : Netlist) (law : Lawful
       signal-is v = here .signals-at (nodeAt (row k) v .number) (law .rows-lawful k inside .earlier v) (opens v)
 
       abbrev fanins : Fanins
-      fanins = faninsIn c (row k)
+      fanins = faninsIn (c .signals) (row k)
 
       abbrev form : Form
       form = record { row = new k; inverted = false }
@@ -80,9 +80,9 @@ module _ (o : Ownership) (places : ℕ) (size : ℕ) (n : Netlist) (law : Lawful
       form-means = record {
         lawful = relabel-normal keep i (row k) opens (law .rows-lawful k inside .shape);
         means = λ φ z.
-          let one = λ (v : Variable). ap (signalUnder φ) (sym (signal-is v)) in
-          ap₂ (λ (a b : Bool). value (row k .table) (record { a = a; b = b; c = φ (renumber keep i (row k .c .number)); d = φ (renumber keep i (row k .d .number)) })) (one V0) (one V1)
-          ∙ ap₂ (λ (a b : Bool). value (row k .table) (record { a = signalUnder φ (signalIn c (row k .a)); b = signalUnder φ (signalIn c (row k .b)); c = a; d = b })) (one V2) (one V3);
+            let one = λ (v : Variable). ap (signalUnder φ) (sym (signal-is v)) in
+            ap₂ (λ (a b : Bool). value (row k .table) (record { a = a; b = b; c = φ (renumber keep i (row k .c .number)); d = φ (renumber keep i (row k .d .number)) })) (one V0) (one V1)
+            ∙ ap₂ (λ (a b : Bool). value (row k .table) (record { a = signalUnder φ (signalIn (c .signals) (row k .a)); b = signalUnder φ (signalIn (c .signals) (row k .b)); c = a; d = b })) (one V2) (one V3);
       }
 
       form-is : form ≡ normal (row k .table) fanins
@@ -132,8 +132,8 @@ module _ (o : Ownership) (places : ℕ) (size : ℕ) (n : Netlist) (law : Lawful
           let free : length (c .netlist .rows) < places = omega arith in
           taken (keep (length (c .signals))) _ _ (ap keep (here .nodes) ∙ kept)
           ∙ ap (λ (p : Result Placing Refusal). andThen p (noted c))
-            (place-owned o places (c .netlist) (row k .table) fanins form form-is all-there positive (law .rows-lawful k inside .owned)
-            ∙ row-added places (c .netlist) (new k) false none-alike free)
+          (place-owned o places (c .netlist) (row k .table) fanins form form-is all-there positive (law .rows-lawful k inside .owned)
+          ∙ row-added places (c .netlist) (new k) false none-alike free)
 
       along-kept : Along keep n (suc k) after
       along-kept = record {
@@ -141,29 +141,29 @@ module _ (o : Ownership) (places : ℕ) (size : ℕ) (n : Netlist) (law : Lawful
         no-outputs = here .no-outputs;
         count = length-push (c .netlist .rows) (new k) ∙ ap (λ (x : ℕ). x + 1) (here .count) ∙ sym (rank-kept keep i k kept);
         rows-at = λ j h e.
-          elim (cases-lt j k) [
-            inl l ↦
-            let q = here .count in
-            let lt = rank-lt keep i j k l e in
-            let in′ : keptBefore keep i j < length (c .netlist .rows) = omega arith in
-            getD-append-left (c .netlist .rows) (new k ∷ []) noRow (keptBefore keep i j) in′ ∙ here .rows-at j l e
-          | inr l ↦
-            let s : k ≡ j = omega arith in
-            subst (λ (x : ℕ). getD (c .netlist .rows ++ new k ∷ []) (keptBefore keep i x) noRow ≡ new x) s (getD-push (c .netlist .rows) (new k) noRow (keptBefore keep i k) (here .count))
-          ];
+            elim (cases-lt j k) [
+              | inl l ↦
+                  let q = here .count in
+                  let lt = rank-lt keep i j k l e in
+                  let in′ : keptBefore keep i j < length (c .netlist .rows) = omega arith in
+                  getD-append-left (c .netlist .rows) (new k ∷ []) noRow (keptBefore keep i j) in′ ∙ here .rows-at j l e
+              | inr l ↦
+                  let s : k ≡ j = omega arith in
+                  subst (λ (x : ℕ). getD (c .netlist .rows ++ new k ∷ []) (keptBefore keep i x) noRow ≡ new x) s (getD-push (c .netlist .rows) (new k) noRow (keptBefore keep i k) (here .count))
+            ];
         nodes = let p = length-push (c .signals) (signalOf (rowNode (c .netlist) (length (c .netlist .rows))) false) in let q = here .nodes in omega arith;
         signals-at = λ m h op.
-          let s = signalOf (rowNode (c .netlist) (length (c .netlist .rows))) false in
-          elim (cases-lt m (i + 1 + k)) [
-            inl l ↦ let q = here .nodes in getD-append-left (c .signals) (s ∷ []) noSignal m (omega arith) ∙ here .signals-at m l op
-          | inr l ↦
-            let e : i + 1 + k ≡ m = omega arith in
-            let t = here .same-inputs in
-            let q = here .count in
-            let w = of-row keep i k in
-            let num : c .netlist .inputs + 1 + length (c .netlist .rows) ≡ renumber keep i (i + 1 + k) = omega (arith, t, q, w) in
-            getD-push (c .signals) s noSignal m (here .nodes ∙ e) ∙ ap plain num ∙ ap (λ (x : ℕ). plain (renumber keep i x)) e
-          ];
+            let s = signalOf (rowNode (c .netlist) (length (c .netlist .rows))) false in
+            elim (cases-lt m (i + 1 + k)) [
+              | inl l ↦ let q = here .nodes in getD-append-left (c .signals) (s ∷ []) noSignal m (omega arith) ∙ here .signals-at m l op
+              | inr l ↦
+                  let e : i + 1 + k ≡ m = omega arith in
+                  let t = here .same-inputs in
+                  let q = here .count in
+                  let w = of-row keep i k in
+                  let num : c .netlist .inputs + 1 + length (c .netlist .rows) ≡ renumber keep i (i + 1 + k) = omega (arith, t, q, w) in
+                  getD-push (c .signals) s noSignal m (here .nodes ∙ e) ∙ ap plain num ∙ ap (λ (x : ℕ). plain (renumber keep i x)) e
+            ];
       }
 
     -- ---- the row is left out
@@ -179,26 +179,26 @@ module _ (o : Ownership) (places : ℕ) (size : ℕ) (n : Netlist) (law : Lawful
         no-outputs = here .no-outputs;
         count = here .count ∙ sym (rank-skipped keep i k left);
         rows-at = λ j h e.
-          elim (cases-lt j k) [
-            inl l ↦ here .rows-at j l e
-          | inr l ↦ let s : k ≡ j = omega arith in absurd (true≢false (sym e ∙ ap (λ (x : ℕ). keep (i + 1 + x)) (sym s) ∙ left))
-          ];
+            elim (cases-lt j k) [
+              | inl l ↦ here .rows-at j l e
+              | inr l ↦ let s : k ≡ j = omega arith in absurd (true≢false (sym e ∙ ap (λ (x : ℕ). keep (i + 1 + x)) (sym s) ∙ left))
+            ];
         nodes = let p = length-push (c .signals) noSignal in let q = here .nodes in omega arith;
         signals-at = λ m h op.
-          elim (cases-lt m (i + 1 + k)) [
-            inl l ↦ let q = here .nodes in getD-append-left (c .signals) (noSignal ∷ []) noSignal m (omega arith) ∙ here .signals-at m l op
-          | inr l ↦
-            let s : i + 1 + k ≡ m = omega arith in
-            elim op [ inl a ↦ absurd (omega arith) | inr e ↦ absurd (true≢false (sym e ∙ ap keep (sym s) ∙ left)) ]
-          ];
+            elim (cases-lt m (i + 1 + k)) [
+              | inl l ↦ let q = here .nodes in getD-append-left (c .signals) (noSignal ∷ []) noSignal m (omega arith) ∙ here .signals-at m l op
+              | inr l ↦
+                  let s : i + 1 + k ≡ m = omega arith in
+                  elim op [ inl a ↦ absurd (omega arith) | inr e ↦ absurd (true≢false (sym e ∙ ap keep (sym s) ∙ left)) ]
+            ];
       }
 
   step : keptBefore keep i (length (n .rows)) ≤ places → (k : ℕ) → k < length (n .rows) → (c : Copy) → Along keep n k c
       → (d : Copy) × (copyRow o places keep (row k) c ≡ Ok d) × Along keep n (suc k) d
   step room k inside c here =
       elim (cases-bool (keep (i + 1 + k))) [
-        inl kept ↦ (after k inside c here kept, placed k inside c here kept room, along-kept k inside c here kept)
-      | inr left ↦ (skipped c, skips k inside c here left, along-skipped k inside c here left)
+        | inl kept ↦ (after k inside c here kept, placed k inside c here kept room, along-kept k inside c here kept)
+        | inr left ↦ (skipped c, skips k inside c here left, along-skipped k inside c here left)
       ]
 
   -- ---- the rows from k on
@@ -223,7 +223,7 @@ module _ (o : Ownership) (places : ℕ) (size : ℕ) (n : Netlist) (law : Lawful
     rows-at = λ j h e. absurd (not-suc-le-zero h);
     nodes = length-map-counting plain 0 (i + 1) ∙ omega arith;
     signals-at = λ m h op.
-      getD-map-counting plain 0 (i + 1) m m noSignal (omega arith) (omega arith) ∙ ap plain (sym (of-input keep i m (omega arith)));
+        getD-map-counting plain 0 (i + 1) m m noSignal (omega arith) (omega arith) ∙ ap plain (sym (of-input keep i m (omega arith)));
   }
 
   -- all rows that are kept, from an empty network

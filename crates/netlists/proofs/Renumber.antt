@@ -32,8 +32,8 @@ module _ (keep : ℕ → Bool) (i : ℕ) where
   rank-mono j zero h = let e : j ≡ 0 = omega arith in subst (λ (x : ℕ). rank x ≤ 0) (sym e) (omega arith)
   rank-mono j (suc k) h =
       elim (cases-lt j (suc k)) [
-        inl l ↦ let p = rank-mono j k (omega arith) in omega arith
-      | inr l ↦ let e : suc k ≡ j = omega arith in subst (λ (x : ℕ). rank x ≤ rank (suc k)) e (omega arith)
+        | inl l ↦ let p = rank-mono j k (omega arith) in omega arith
+        | inr l ↦ let e : suc k ≡ j = omega arith in subst (λ (x : ℕ). rank x ≤ rank (suc k)) e (omega arith)
       ]
 
   pub rank-lt : (j k : ℕ) → j < k → keep (i + 1 + j) ≡ true → rank j < rank k
@@ -44,16 +44,16 @@ module _ (keep : ℕ → Bool) (i : ℕ) where
   rank-onto zero x h = absurd (not-suc-le-zero h)
   rank-onto (suc k) x h =
       elim (cases-bool (keep (i + 1 + k))) [
-        inl e ↦
-        let p = rank-kept k e in
-        elim (cases-lt x (rank k)) [
-          inl l ↦ let r = rank-onto k x l in (r .0, omega (arith, r .1), r .2, r .3)
-        | inr l ↦ (k, omega arith, e, omega arith)
-        ]
-      | inr e ↦
-        let p = rank-skipped k e in
-        let r = rank-onto k x (omega arith) in
-        (r .0, omega (arith, r .1), r .2, r .3)
+        | inl e ↦
+            let p = rank-kept k e in
+            elim (cases-lt x (rank k)) [
+              | inl l ↦ let r = rank-onto k x l in (r .0, omega (arith, r .1), r .2, r .3)
+              | inr l ↦ (k, omega arith, e, omega arith)
+            ]
+        | inr e ↦
+            let p = rank-skipped k e in
+            let r = rank-onto k x (omega arith) in
+            (r .0, omega (arith, r .1), r .2, r .3)
       ]
 
   -- ---- new numbers
@@ -92,16 +92,16 @@ module _ (keep : ℕ → Bool) (i : ℕ) where
   pub order-kept : (x y : ℕ) → x < y → Open x → renumber x < renumber y
   order-kept x y l o =
       elim (cases-lt i x) [
-        inl h ↦ elim o [ inl a ↦ absurd (omega arith) | inr k ↦ row-lt x y h l k ]
-      | inr h ↦
-        let a = of-input x h in
-        elim (cases-lt i y) [
-          inl g ↦
-          let q = past-input y g in
-          let b = ap renumber q ∙ of-row (y - (i + 1)) in
-          omega (arith, a, b)
-        | inr g ↦ let b = of-input y g in omega arith
-        ]
+        | inl h ↦ elim o [ inl a ↦ absurd (omega arith) | inr k ↦ row-lt x y h l k ]
+        | inr h ↦
+            let a = of-input x h in
+            elim (cases-lt i y) [
+              | inl g ↦
+                  let q = past-input y g in
+                  let b = ap renumber q ∙ of-row (y - (i + 1)) in
+                  omega (arith, a, b)
+              | inr g ↦ let b = of-input y g in omega arith
+            ]
       ]
 
   pub of-zero : renumber 0 ≡ 0
@@ -121,9 +121,9 @@ module _ (keep : ℕ → Bool) (i : ℕ) where
   pub renumber-one : (x y : ℕ) → Open x → Open y → renumber x ≡ renumber y → x ≡ y
   renumber-one x y a b e =
       elim (cases-order x y) [
-        inl same ↦ same
-      | inr (inl l) ↦ let p = order-kept x y l a in absurd (omega arith)
-      | inr (inr l) ↦ let p = order-kept y x l b in absurd (omega arith)
+        | inl same ↦ same
+        | inr (inl l) ↦ let p = order-kept x y l a in absurd (omega arith)
+        | inr (inr l) ↦ let p = order-kept y x l b in absurd (omega arith)
       ]
 
   -- ---- rows over the new numbers
@@ -147,7 +147,7 @@ module _ (keep : ℕ → Bool) (i : ℕ) where
     ascending-c = follows (r .b .number) (r .c .number) (o V1) (law .ascending-c);
     ascending-d = follows (r .c .number) (r .d .number) (o V2) (law .ascending-d);
     exact = every-variable (λ v. dependsOn (r .table) v ≡ ltb 0 (nodeAt (relabel r) v .number))
-      (law .exact V0 ∙ same-use (r .a .number)) (law .exact V1 ∙ same-use (r .b .number)) (law .exact V2 ∙ same-use (r .c .number)) (law .exact V3 ∙ same-use (r .d .number));
+        (law .exact V0 ∙ same-use (r .a .number)) (law .exact V1 ∙ same-use (r .b .number)) (law .exact V2 ∙ same-use (r .c .number)) (law .exact V3 ∙ same-use (r .d .number));
     zero = law .zero;
   }
 

@@ -69,8 +69,8 @@ module _ (o : Ownership) (size : ℕ) (n : Netlist) (law : Lawful o size n) (kee
       let p2 : length (false ∷ xs) + k ≡ i + 1 + k = omega arith in
       let one = λ (v : Variable). before (nodeAt (row k) v .number) (earlier v) (opens v) in
       let below : (v : Variable) → nodeAt (relabel keep i (row k)) v .number < length (false ∷ xs) + r = every-variable (λ v. nodeAt (relabel keep i (row k)) v .number < length (false ∷ xs) + r)
-        (small (row k .a .number) k (earlier V0) (opens V0) p) (small (row k .b .number) k (earlier V1) (opens V1) p)
-        (small (row k .c .number) k (earlier V2) (opens V2) p) (small (row k .d .number) k (earlier V3) (opens V3) p) in
+      (small (row k .a .number) k (earlier V0) (opens V0) p) (small (row k .b .number) k (earlier V1) (opens V1) p)
+      (small (row k .c .number) k (earlier V2) (opens V2) p) (small (row k .d .number) k (earlier V3) (opens V3) p) in
       ap now (sym p)
       ∙ row-value (false ∷ xs) (c .netlist .rows) r (omega arith) (subst (λ (x : Row). (v : Variable) → nodeAt x v .number < length (false ∷ xs) + r) (sym e) below)
       ∙ ap (rowUnder now) e
@@ -86,13 +86,13 @@ module _ (o : Ownership) (size : ℕ) (n : Netlist) (law : Lawful o size n) (kee
   value-upto zero h m b op = input-value m (omega arith)
   value-upto (suc k) h m b op =
       elim (cases-lt m (i + 1 + k)) [
-        inl a ↦ value-upto k (omega arith) m a op
-      | inr a ↦
-        let e : m ≡ i + 1 + k = omega arith in
-        elim op [
-          inl z ↦ input-value m z
-        | inr kept ↦ ap now (ap (renumber keep i) e ∙ of-row keep i k) ∙ next-value k (omega arith) (ap keep (sym e) ∙ kept) (value-upto k (omega arith)) ∙ ap old (sym e)
-        ]
+        | inl a ↦ value-upto k (omega arith) m a op
+        | inr a ↦
+            let e : m ≡ i + 1 + k = omega arith in
+            elim op [
+              | inl z ↦ input-value m z
+              | inr kept ↦ ap now (ap (renumber keep i) e ∙ of-row keep i k) ∙ next-value k (omega arith) (ap keep (sym e) ∙ kept) (value-upto k (omega arith)) ∙ ap old (sym e)
+            ]
       ]
 
   -- every node that is kept has its value
@@ -111,8 +111,8 @@ inverted-plain : (b : Bool) → inverted b false ≡ b
 inverted-plain true = refl
 inverted-plain false = refl
 
-through-is : (c : Copy) (ρ : ℕ → ℕ) (s : Signal) → getD (c .signals) (s .node .number) noSignal ≡ plain (ρ (s .node .number)) → through c s ≡ relabelSignal ρ s
-through-is c ρ s e =
+through-is : (sig : List Signal) (ρ : ℕ → ℕ) (s : Signal) → getD sig (s .node .number) noSignal ≡ plain (ρ (s .node .number)) → through sig s ≡ relabelSignal ρ s
+through-is sig ρ s e =
     ap (λ (t : Signal). signalOf (t .node) (inverted (s .inverted) (t .inverted))) e
     ∙ ap (signalOf (record { number = ρ (s .node .number) })) (inverted-plain (s .inverted))
 
@@ -123,12 +123,11 @@ outs : (sig : List Signal) (ρ : ℕ → ℕ) (ss : List Signal) (m : Netlist)
 unfolding copyOutputs
 outs sig ρ [] m h few = ap (λ (os : List Signal). Ok (withOutputs m os)) (sym (append-nil (m .outputs)))
 outs sig ρ (s ∷ ss) m h few =
-    let c : Copy = record { netlist = m; signals = sig } in
     let t = relabelSignal ρ s in
     let p = h 0 (omega arith) in
     let room : length (m .outputs) < 32 = omega arith in
     let e = length-push (m .outputs) t in
-    ap (λ (x : Signal). andThen (afterOutput m x) (λ y. copyOutputs ss (record { netlist = y; signals = sig }))) (through-is c ρ s (p .0))
+    ap (λ (x : Signal). andThen (afterOutput m x) (λ y. copyOutputs ss (record { netlist = y; signals = sig }))) (through-is sig ρ s (p .0))
     ∙ ap (λ (x : Result Netlist Refusal). andThen x (λ y. copyOutputs ss (record { netlist = y; signals = sig }))) (output-few m t (le-leb (ρ (s .node .number)) (m .inputs + length (m .rows)) (p .1)) room)
     ∙ outs sig ρ ss (withOutput m t) (λ k l. h (suc k) (omega arith)) (omega arith)
     ∙ ap (λ (os : List Signal). Ok (withOutputs m os)) (append-assoc (m .outputs) (t ∷ []) (map (relabelSignal ρ) ss))
@@ -165,14 +164,14 @@ module _ (o : Ownership) (places size : ℕ) (n : Netlist) (law : Lawful o size 
       let z = done .no-outputs in
       let few : length (made .netlist .outputs) + length (n .outputs) ≤ 32 = subst (λ (os : List Signal). length os + length (n .outputs) ≤ 32) (sym z) (let f = law .few-outputs in omega arith) in
       outs (made .signals) ρ (n .outputs) (made .netlist)
-        (λ k h.
-          let m = getD (n .outputs) k noSignal .node .number in
-          let t = there k h in
-          let b : m < i + 1 + length (n .rows) = omega arith in
-          let l = order-kept keep i m (i + 1 + length (n .rows)) b (outer k h) in
-          let e = of-row keep i (length (n .rows)) in
-          (done .signals-at m b (outer k h), omega (arith, l, e, s, q)))
-        few
+      (λ k h.
+      let m = getD (n .outputs) k noSignal .node .number in
+      let t = there k h in
+      let b : m < i + 1 + length (n .rows) = omega arith in
+      let l = order-kept keep i m (i + 1 + length (n .rows)) b (outer k h) in
+      let e = of-row keep i (length (n .rows)) in
+      (done .signals-at m b (outer k h), omega (arith, l, e, s, q)))
+      few
       ∙ ap₂ (λ (x : ℕ) (os : List Signal). Ok (record { inputs = x; rows = made .netlist .rows; outputs = os ++ map (relabelSignal ρ) (n .outputs) })) s z
 
   all-made : andThen (copyRows o places keep (n .rows) (fresh (n .inputs))) (copyOutputs (n .outputs)) ≡ Ok result
@@ -204,6 +203,7 @@ claim-new m k r ws early h = go (has k ws) h
   where
     other : (x : ℕ) → x < m → (rest : Bool) → (eqb m x || rest) ≡ true → rest ≡ true
     other x l rest e = elim (or-cases (eqb m x) rest e) [ inl q ↦ let p = eqb-true m x q in absurd (omega arith) | inr q ↦ q ]
+
     go : (b : Bool) → has m (elim b [ true ↦ nodesOf r ++ ws | false ↦ ws ]) ≡ true → has m ws ≡ true
     go true e =
         let w = has m ws in
@@ -219,18 +219,19 @@ claim-nodes k r ws h v = subst (λ (b : Bool). has (nodeAt r v .number) (elim b 
   where
     here : (m : ℕ) (rest : Bool) → (eqb m m || rest) ≡ true
     here m rest = or-left (eqb m m) rest (eq-eqb m m refl)
+
     go : (v : Variable) → has (nodeAt r v .number) (nodesOf r ++ ws) ≡ true
     go V0 = here (r .a .number) _
     go V1 = or-right (eqb (r .b .number) (r .a .number)) _ (here (r .b .number) _)
     go V2 = or-right (eqb (r .c .number) (r .a .number)) _ (or-right (eqb (r .c .number) (r .b .number)) _ (here (r .c .number) _))
     go V3 = or-right (eqb (r .d .number) (r .a .number)) _ (or-right (eqb (r .d .number) (r .b .number)) _ (or-right (eqb (r .d .number) (r .c .number)) _ (here (r .d .number) _)))
 
-claims-keeps : (m b : ℕ) (rs : List Row) (ws : List ℕ) → has m ws ≡ true → has m (claims b rs ws) ≡ true
+pub claims-keeps : (m b : ℕ) (rs : List Row) (ws : List ℕ) → has m ws ≡ true → has m (claims b rs ws) ≡ true
 unfolding claims
 claims-keeps m b [] ws h = h
 claims-keeps m b (r ∷ rs) ws h = claim-keeps m b r (claims (suc b) rs ws) (claims-keeps m (suc b) rs ws h)
 
-claims-nodes : (rs : List Row) (b : ℕ) (ws : List ℕ) → ((k : ℕ) → k < length rs → (v : Variable) → nodeAt (getD rs k noRow) v .number < b + k)
+pub claims-nodes : (rs : List Row) (b : ℕ) (ws : List ℕ) → ((k : ℕ) → k < length rs → (v : Variable) → nodeAt (getD rs k noRow) v .number < b + k)
     → (k : ℕ) → k < length rs → has (b + k) (claims b rs ws) ≡ true → (v : Variable) → has (nodeAt (getD rs k noRow) v .number) (claims b rs ws) ≡ true
 unfolding claims
 claims-nodes [] b ws early k h e v = absurd (not-suc-le-zero h)
@@ -245,9 +246,9 @@ claims-nodes (r ∷ rs) b ws early (suc k) h e v =
     let f = early 0 (omega arith) in
     claim-keeps (nodeAt (getD rs k noRow) v .number) b r w
     (claims-nodes rs (suc b) ws (λ j l u. let g = early (suc j) (omega arith) u in omega (arith, g)) k (le-of-suc-le-suc h)
-      (claim-new (suc b + k) b r w (λ u. let g = f u in omega (arith, g)) (subst (λ (x : ℕ). has x (claim b r w) ≡ true) z e)) v)
+    (claim-new (suc b + k) b r w (λ u. let g = f u in omega (arith, g)) (subst (λ (x : ℕ). has x (claim b r w) ≡ true) z e)) v)
 
-output-has : (ss : List Signal) (k : ℕ) → k < length ss → has (getD ss k noSignal .node .number) (outputNodes ss) ≡ true
+pub output-has : (ss : List Signal) (k : ℕ) → k < length ss → has (getD ss k noSignal .node .number) (outputNodes ss) ≡ true
 unfolding outputNodes
 output-has [] k h = absurd (not-suc-le-zero h)
 output-has (s ∷ ss) zero h = or-left (eqb (s .node .number) (s .node .number)) _ (eq-eqb (s .node .number) (s .node .number) refl)
@@ -270,13 +271,16 @@ pub sweep-swept : (o : Ownership) (places size : ℕ) (n : Netlist) → Lawful o
 unfolding swept
 sweep-swept o places size n law room =
     let closed = reached-closed o size n law in
-    let outer = reached-outer n in
-    (result o places size n law (reached n) closed outer room, all-made o places size n law (reached n) closed outer room, record {
-      same-inputs = refl;
-      same-outputs = length-map (n .outputs) (relabelSignal (renumber (reached n) (n .inputs)));
-      same-values = output-value o places size n law (reached n) closed outer room;
-      gates = done o places size n law (reached n) closed outer room .count;
-    })
+    let outer = reached-outer n in (
+      result o places size n law (reached n) closed outer room,
+      all-made o places size n law (reached n) closed outer room,
+      record {
+        same-inputs = refl;
+        same-outputs = length-map (n .outputs) (relabelSignal (renumber (reached n) (n .inputs)));
+        same-values = output-value o places size n law (reached n) closed outer room;
+        gates = done o places size n law (reached n) closed outer room .count;
+      },
+    )
 
 -- ---- where every row is kept, the numbers stay
 
@@ -290,11 +294,11 @@ rank-every i (suc k) = let e = rank-every i k in omega arith
 renumber-every : (i m : ℕ) → renumber every i m ≡ m
 renumber-every i m =
     elim (cases-lt i m) [
-      inl l ↦
-      let q : m ≡ i + 1 + (m - (i + 1)) = omega arith in
-      let e = rank-every i (m - (i + 1)) in
-      ap (renumber every i) q ∙ of-row every i (m - (i + 1)) ∙ omega arith
-    | inr l ↦ of-input every i m l
+      | inl l ↦
+          let q : m ≡ i + 1 + (m - (i + 1)) = omega arith in
+          let e = rank-every i (m - (i + 1)) in
+          ap (renumber every i) q ∙ of-row every i (m - (i + 1)) ∙ omega arith
+      | inr l ↦ of-input every i m l
     ]
 
 relabel-every : (i : ℕ) (r : Row) → relabel every i r ≡ r
@@ -327,10 +331,10 @@ module _ (o : Ownership) (places size : ℕ) (n : Netlist) (law : Lawful o size 
   same-rows =
       ext-getD noRow (copy .rows) (n .rows) (finished .count ∙ rank-every (n .inputs) (length (n .rows)))
       (λ k h.
-        let q = finished .count in
-        let e = rank-every (n .inputs) (length (n .rows)) in
-        let l : k < length (n .rows) = omega arith in
-        ap (λ (x : ℕ). getD (copy .rows) x noRow) (sym (rank-every (n .inputs) k)) ∙ finished .rows-at k l refl ∙ relabel-every (n .inputs) (getD (n .rows) k noRow))
+      let q = finished .count in
+      let e = rank-every (n .inputs) (length (n .rows)) in
+      let l : k < length (n .rows) = omega arith in
+      ap (λ (x : ℕ). getD (copy .rows) x noRow) (sym (rank-every (n .inputs) k)) ∙ finished .rows-at k l refl ∙ relabel-every (n .inputs) (getD (n .rows) k noRow))
 
   -- a netlist placed row by row into an empty network comes out as itself
   pub copy-itself : copied o places n ≡ Ok n

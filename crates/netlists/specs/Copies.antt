@@ -8,6 +8,7 @@ use lib.ListN.{length, getD}
 use Rattle.std.specs.Iters.{counting}
 use Rattle.std.specs.declared.result.Result.{Result}
 use Rattle.std.specs.declared.result.Result.the-variants.{Ok, Err}
+use Rattle.tables.specs.declared.Variable.{Variable}
 use Rattle.tables.specs.Bits.{inverted}
 use Rattle.classes.specs.declared.Ownership.{Ownership}
 use Rattle.netlists.specs.declared.Node.{Node}
@@ -16,18 +17,19 @@ use Rattle.netlists.specs.declared.Row.{Row}
 use Rattle.netlists.specs.declared.Fanins.{Fanins}
 use Rattle.netlists.specs.declared.Refusal.{Refusal}
 use Rattle.netlists.specs.Netlists.{Netlist, signalValue}
-use Rattle.netlists.specs.Placing.{noSignal, signalOf, Placing, afterPlace, empty, afterOutput}
+use Rattle.netlists.specs.Normal.{nodeAt}
+use Rattle.netlists.specs.Placing.{noRow, noSignal, signalOf, Placing, afterPlace, empty, afterOutput}
 
 -- a netlist under way, and the signal in it for each node of another, from node 0 on
 pub record Copy : Type 0 where
   pub netlist : Netlist
   pub signals : List Signal
 
-abbrev pub signalIn : Copy → Node → Signal
-signalIn c x = getD (c .signals) (x .number) noSignal
+abbrev pub signalIn : List Signal → Node → Signal
+signalIn ss x = getD ss (x .number) noSignal
 
-abbrev pub faninsIn : Copy → Row → Fanins
-faninsIn c r = record { a = signalIn c (r .a); b = signalIn c (r .b); c = signalIn c (r .c); d = signalIn c (r .d) }
+abbrev pub faninsIn : List Signal → Row → Fanins
+faninsIn ss r = record { a = signalIn ss (r .a); b = signalIn ss (r .b); c = signalIn ss (r .c); d = signalIn ss (r .d) }
 
 -- what follows an accepted call; a refusal stays
 abbrev pub andThen : {A B : Type 0} → Result A Refusal → (A → Result B Refusal) → Result B Refusal
@@ -40,12 +42,16 @@ noted c p = Ok (record { netlist = p .netlist; signals = c .signals ++ p .signal
 abbrev pub skipped : Copy → Copy
 skipped c = record { netlist = c .netlist; signals = c .signals ++ noSignal ∷ [] }
 
--- the row of the next node is placed over the signals of its nodes, where that node is kept
+-- the row of the next node is placed over the signals of its nodes
+abbrev pub placeNext : Ownership → ℕ → Row → Copy → Result Copy Refusal
+placeNext o places r c = andThen (afterPlace o places (c .netlist) (r .table) (faninsIn (c .signals) r)) (noted c)
+
+-- and so it is where that node is kept; elsewhere the row is left out
 unfoldable pub copyRow : Ownership → ℕ → (ℕ → Bool) → Row → Copy → Result Copy Refusal
 copyRow o places keep r c =
     elim (keep (length (c .signals))) [
-      true ↦ andThen (afterPlace o places (c .netlist) (r .table) (faninsIn c r)) (noted c)
-    | false ↦ Ok (skipped c)
+      | true ↦ placeNext o places r c
+      | false ↦ Ok (skipped c)
     ]
 
 -- the rows that are kept, in order
@@ -54,18 +60,23 @@ copyRows o places keep [] c = Ok c
 copyRows o places keep (r ∷ rs) c = andThen (copyRow o places keep r c) (copyRows o places keep rs)
 
 -- a signal of the other netlist, as a signal of this one
-abbrev pub through : Copy → Signal → Signal
-through c s = signalOf (signalIn c (s .node) .node) (inverted (s .inverted) (signalIn c (s .node) .inverted))
+abbrev pub through : List Signal → Signal → Signal
+through ss s = signalOf (signalIn ss (s .node) .node) (inverted (s .inverted) (signalIn ss (s .node) .inverted))
 
 unfoldable pub copyOutputs : List Signal → Copy → Result Netlist Refusal
 copyOutputs [] c = Ok (c .netlist)
-copyOutputs (s ∷ ss) c = andThen (afterOutput (c .netlist) (through c s)) (λ m. copyOutputs ss (record { netlist = m; signals = c .signals }))
+copyOutputs (s ∷ ss) c = andThen (afterOutput (c .netlist) (through (c .signals) s)) (λ m. copyOutputs ss (record { netlist = m; signals = c .signals }))
 
 -- an empty network with i inputs, for the nodes of another with as many
 unfoldable pub fresh : ℕ → Copy
 fresh i = record { netlist = empty i; signals = map (λ k. signalOf (record { number = k }) false) (counting 0 (i + 1)) }
 
 -- ---- the rows that some output reaches
+
+-- an output reaches the node that it names, and what a row at a reached node reads
+pub data Reaches (n : Netlist) : ℕ → Type 0 where
+  named : (k : ℕ) → k < length (n .outputs) → Reaches n (getD (n .outputs) k noSignal .node .number)
+  read : (k : ℕ) → k < length (n .rows) → Reaches n (n .inputs + 1 + k) → (v : Variable) → Reaches n (nodeAt (getD (n .rows) k noRow) v .number)
 
 abbrev pub has : ℕ → List ℕ → Bool
 has k [] = false
@@ -90,6 +101,11 @@ outputNodes ss = map (λ s. s .node .number) ss
 unfoldable pub reached : Netlist → ℕ → Bool
 reached n k = has k (claims (n .inputs + 1) (n .rows) (outputNodes (n .outputs)))
 
+-- the nodes that are computed so are the ones that outputs reach
+pub record ReachedExactly (n : Netlist) : Type 0 where
+  pub sound : (m : ℕ) → reached n m ≡ true → Reaches n m
+  pub complete : (m : ℕ) → Reaches n m → reached n m ≡ true
+
 -- how many of the first k rows are kept, i inputs standing before them
 abbrev pub keptBefore : (ℕ → Bool) → ℕ → ℕ → ℕ
 keptBefore keep i zero = 0
@@ -97,13 +113,17 @@ keptBefore keep i (suc k) = keptBefore keep i k + cond (keep (i + 1 + k)) 1 0
 
 -- ---- whole netlists
 
+-- the rows of n that are kept, in order, into an empty network, and then the outputs
+abbrev pub copyKept : Ownership → ℕ → (ℕ → Bool) → Netlist → Result Netlist Refusal
+copyKept o places keep n = andThen (copyRows o places keep (n .rows) (fresh (n .inputs))) (copyOutputs (n .outputs))
+
 -- every row of n, in order, into an empty network
 unfoldable pub copied : Ownership → ℕ → Netlist → Result Netlist Refusal
-copied o places n = andThen (copyRows o places (λ k. true) (n .rows) (fresh (n .inputs))) (copyOutputs (n .outputs))
+copied o places n = copyKept o places (λ k. true) n
 
 -- the rows of n that some output reaches, in order, into an empty network
 unfoldable pub swept : Ownership → ℕ → Netlist → Result Netlist Refusal
-swept o places n = andThen (copyRows o places (reached n) (n .rows) (fresh (n .inputs))) (copyOutputs (n .outputs))
+swept o places n = copyKept o places (reached n) n
 
 -- how many rows some output reaches
 abbrev pub reachedRows : Netlist → ℕ

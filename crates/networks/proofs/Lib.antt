@@ -1,1 +1,4 @@
 pub mod Meanings
+pub mod Copying
+pub mod Keeping
+pub mod Marking

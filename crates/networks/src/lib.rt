@@ -1,4 +1,7 @@
 // One interface for every kind of network, with its contract on the netlist alone.
+pub mod copies;
+pub mod sweeps;
+
 ghost use mathlib.Core.Path.{_≡_};
 ghost use Prim.Native.Nat.{ℕ};
 ghost use lib.ListN.{length};
