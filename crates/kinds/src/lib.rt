@@ -1,0 +1,4 @@
+// The four kinds of network.
+pub mod and;
+
+pub use and::AndNetwork;
