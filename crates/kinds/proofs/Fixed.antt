@@ -8,13 +8,12 @@ use Rattle.std.specs.declared.result.Result.the-variants.{Ok, Err}
 use Rattle.netlists.specs.declared.Signal.{Signal}
 use Rattle.netlists.specs.declared.Fanins.{Fanins}
 use Rattle.netlists.specs.declared.Refusal.{Refusal}
-use Rattle.netlists.specs.Placing.{afterPlace}
 use Rattle.netlists.specs.Lawful.{Lawful}
 use Rattle.codings.specs.declared.coding.Coding.{Coding}
 use Rattle.codings.specs.declared.coding.Coding.the-variants.{And, AndXor, Majority, Every}
 use Rattle.codings.specs.Codings.{ownershipOf}
 use Rattle.gates.specs.declared.gates.Gates.{Gates}
-use Rattle.gates.specs.Gates.{netlistOf, codingOf, placesOf, ownedBy, KeptIn}
+use Rattle.gates.specs.Gates.{netlistOf, codingOf, placesOf, KeptIn, Placed}
 use Rattle.gates.proofs.Laws.{gates-lawful}
 use Rattle.kinds.specs.Codings.{codingNumber}
 
@@ -48,12 +47,7 @@ pub refused-as : {A : Type 0} (r : Result A Refusal) (P : A → Type 0) (Q : Ref
 refused-as (Ok x) P Q D E f h = h
 refused-as (Err e) P Q D E f h = (h .0, f (h .1))
 
-abbrev Answered : Coding → Gates → Gates → ℕ → Fanins → Result Signal Refusal → Type 0 → Type 0
-Answered c g h f w r E =
-    Cases r (λ s. afterPlace (ownershipOf c) (placesOf g) (netlistOf g) f w ≡ Ok (record { signal = s; netlist = netlistOf h }))
-    (λ e. (afterPlace (ownershipOf c) (placesOf g) (netlistOf g) f w ≡ Err e) × E)
-
 pub placed-as : (c : Coding) (g h : Gates) (f : ℕ) (w : Fanins) (r : Result Signal Refusal) (E : Type 0) → codingNumber (codingOf g) ≡ codingNumber c → (h ≡ g → E)
-    → Answered (codingOf g) g h f w r (h ≡ g) → Answered c g h f w r E
+    → Placed (codingOf g) g h f w r (h ≡ g) → Placed c g h f w r E
 placed-as c g h f w r E e to a =
-    refused-as r _ _ (h ≡ g) E to (subst (λ (d : Coding). Answered d g h f w r (h ≡ g)) (same-coding (codingOf g) c e) a)
+    refused-as r _ _ (h ≡ g) E to (subst (λ (d : Coding). Placed d g h f w r (h ≡ g)) (same-coding (codingOf g) c e) a)

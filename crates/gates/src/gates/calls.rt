@@ -1,12 +1,10 @@
 //! Opening and closing a network, and what alters it. Nothing allocates, and what is refused alters nothing.
 ghost use mathlib.Core.Path.{_≡_};
 ghost use Rattle.std.specs.Of.Vec.{vec-len};
-ghost use Rattle.std.specs.Results.{Cases};
-ghost use Rattle.std.specs.declared.result.Result.the-variants.{Ok, Err};
-ghost use Rattle.netlists.specs.Placing.{empty, afterStart, afterPlace, afterOutput};
+ghost use Rattle.netlists.specs.Placing.{empty};
 ghost use Rattle.codings.specs.Codings.{coder};
 ghost use Rattle.stores.specs.Blocks.{placesIn};
-ghost use Rattle.gates.specs.Gates.{netlistOf, codingOf, placesOf, ownedBy, KeptIn};
+ghost use Rattle.gates.specs.Gates.{netlistOf, codingOf, placesOf, KeptIn, Started, Placed, OutputAdded};
 use crate::gates::Gates;
 use crate::keeping::keep_row;
 use crate::outputs::Outputs;
@@ -49,7 +47,7 @@ impl Gates {
 
     /// Empties the network and gives it inputs.
     pub fn start(&mut self, inputs: usize) -> Result<(), Refusal>
-        ensures answer { λ r. ⌜ Cases r (λ _. afterStart inputs ≡ Ok (netlistOf (now (self .exit)))) (λ e. (afterStart inputs ≡ Err e) × (now (self .exit) ≡ now (self .entry))) ⌝ }
+        ensures answer { λ r. ⌜ Started (now (self .exit)) inputs r (now (self .exit) ≡ now (self .entry)) ⌝ }
         ensures kept { λ _. ⌜ KeptIn (now (self .entry)) (now (self .exit)) ⌝ }
     {
         if inputs > 32 {
@@ -63,7 +61,7 @@ impl Gates {
 
     /// Answers a signal that has the table's value at the signals: a constant, a node that is there, or a new last row.
     pub fn place(&mut self, table: Table, fanins: Fanins) -> Result<Signal, Refusal>
-        ensures answer { λ r. ⌜ Cases r (λ s. afterPlace (ownedBy (now (self .entry))) (placesOf (now (self .entry))) (netlistOf (now (self .entry))) table fanins ≡ Ok (record { signal = s; netlist = netlistOf (now (self .exit)) })) (λ e. (afterPlace (ownedBy (now (self .entry))) (placesOf (now (self .entry))) (netlistOf (now (self .entry))) table fanins ≡ Err e) × (now (self .exit) ≡ now (self .entry))) ⌝ }
+        ensures answer { λ r. ⌜ Placed (codingOf (now (self .entry))) (now (self .entry)) (now (self .exit)) table fanins r (now (self .exit) ≡ now (self .entry)) ⌝ }
         ensures kept { λ _. ⌜ KeptIn (now (self .entry)) (now (self .exit)) ⌝ }
     {
         if !self.has_all(fanins) {
@@ -84,7 +82,7 @@ impl Gates {
 
     /// Adds an output signal.
     pub fn output(&mut self, signal: Signal) -> Result<(), Refusal>
-        ensures answer { λ r. ⌜ Cases r (λ _. afterOutput (netlistOf (now (self .entry))) signal ≡ Ok (netlistOf (now (self .exit)))) (λ e. (afterOutput (netlistOf (now (self .entry))) signal ≡ Err e) × (now (self .exit) ≡ now (self .entry))) ⌝ }
+        ensures answer { λ r. ⌜ OutputAdded (now (self .entry)) (now (self .exit)) signal r (now (self .exit) ≡ now (self .entry)) ⌝ }
         ensures kept { λ _. ⌜ KeptIn (now (self .entry)) (now (self .exit)) ⌝ }
     {
         if !self.has_node(signal.node()) {

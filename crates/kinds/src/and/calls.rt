@@ -5,7 +5,7 @@ ghost use Rattle.netlists.specs.Placing.{empty};
 ghost use Rattle.codings.specs.declared.coding.Coding.the-variants.{And};
 ghost use Rattle.codings.specs.Codings.{ownershipOf};
 ghost use Rattle.stores.specs.Blocks.{placesIn};
-ghost use Rattle.gates.specs.Gates.{netlistOf, placesOf};
+ghost use Rattle.gates.specs.Gates.{netlistOf, placesOf, KeptIn, Started, Placed, OutputAdded};
 use classes::Ownership;
 use codings::Coding;
 use crate::and::AndNetwork;
@@ -46,15 +46,27 @@ pub impl Network for AndNetwork as AndNetworkNetwork {
 
     ghost ownership = { ownershipOf And };
 
-    fn start(&mut self, inputs: usize) -> Result<(), Refusal> {
+    fn start(&mut self, inputs: usize) -> Result<(), Refusal>
+        ensures answer { λ r. ⌜ Started (now (self .exit) .gates) inputs r (now (self .exit) ≡ now (self .entry)) ⌝ }
+        ensures kept { λ _. ⌜ placesOf (now (self .exit) .gates) ≡ placesOf (now (self .entry) .gates) ⌝ }
+        ensures words { λ _. ⌜ KeptIn (now (self .entry) .gates) (now (self .exit) .gates) ⌝ }
+    {
         self.gates.start(inputs)
     }
 
-    fn place(&mut self, table: Table, fanins: Fanins) -> Result<Signal, Refusal> {
+    fn place(&mut self, table: Table, fanins: Fanins) -> Result<Signal, Refusal>
+        ensures answer { λ r. ⌜ Placed And (now (self .entry) .gates) (now (self .exit) .gates) table fanins r (now (self .exit) ≡ now (self .entry)) ⌝ }
+        ensures kept { λ _. ⌜ placesOf (now (self .exit) .gates) ≡ placesOf (now (self .entry) .gates) ⌝ }
+        ensures words { λ _. ⌜ KeptIn (now (self .entry) .gates) (now (self .exit) .gates) ⌝ }
+    {
         self.gates.place(table, fanins)
     }
 
-    fn output(&mut self, signal: Signal) -> Result<(), Refusal> {
+    fn output(&mut self, signal: Signal) -> Result<(), Refusal>
+        ensures answer { λ r. ⌜ OutputAdded (now (self .entry) .gates) (now (self .exit) .gates) signal r (now (self .exit) ≡ now (self .entry)) ⌝ }
+        ensures kept { λ _. ⌜ placesOf (now (self .exit) .gates) ≡ placesOf (now (self .entry) .gates) ⌝ }
+        ensures words { λ _. ⌜ KeptIn (now (self .entry) .gates) (now (self .exit) .gates) ⌝ }
+    {
         self.gates.output(signal)
     }
 

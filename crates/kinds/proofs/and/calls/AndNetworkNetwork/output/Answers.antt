@@ -6,4 +6,5 @@ pub returns : need.returns
 returns c = record {
   answer = refused-as (c .output .result) _ _ _ _ (λ e. and-same _ (c .args .self .now) e) (c .output .ensures .answer);
   kept = c .output .ensures .kept .places;
+  words = c .output .ensures .kept;
 }

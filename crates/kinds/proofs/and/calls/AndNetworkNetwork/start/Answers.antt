@@ -6,4 +6,5 @@ pub returns : need.returns
 returns c = record {
   answer = refused-as (c .start .result) _ _ _ _ (λ e. and-same _ (c .args .self .now) e) (c .start .ensures .answer);
   kept = c .start .ensures .kept .places;
+  words = c .start .ensures .kept;
 }
