@@ -1,0 +1,4 @@
+pub mod Signals
+pub mod Laws
+pub mod Rows
+pub mod Calls

@@ -1,0 +1,10 @@
+use Rattle.kinds.proofs.Fixed.{refused-as}
+use Rattle.kinds.proofs.Same.{and-same}
+use Rattle.kinds.proofs.and.calls.AndNetworkNetwork.start.Needs as need
+
+pub returns : need.returns
+returns c = record {
+  answer = refused-as (c .start .result) _ _ _ _ (λ e. and-same _ (c .args .self .now) e) (c .start .ensures .answer);
+  kept = c .start .ensures .kept .places;
+  words = c .start .ensures .kept;
+}
