@@ -4,5 +4,4 @@ pub mod Normal
 pub mod Placing
 pub mod Lawful
 pub mod Meaning
-pub mod Worked
 pub mod Copies

@@ -3,7 +3,6 @@ ghost use mathlib.Core.Path.{_≡_};
 ghost use mathlib.Core.Bool.{cond};
 ghost use Prim.Native.Nat.{_+_, _*_};
 ghost use Rattle.netlists.specs.Refusals.{numberOf};
-ghost use Rattle.netlists.specs.Worked.{Majority-of-opposites};
 use tables::Table;
 
 /// A node of a network: 0 is constant false, then come the inputs, then the rows.
@@ -123,11 +122,4 @@ impl Signal {
     {
         2 * self.node.number as u32 + self.inverted as u32
     }
-}
-
-/// Worked cases, computed by the definitions.
-pub fn worked_cases() -> u8
-    ensures majority { λ _. ⌜ Majority-of-opposites ⌝ }
-{
-    0
 }
