@@ -6,12 +6,13 @@ ghost use mathlib.Core.Path.{_≡_};
 ghost use Prim.Native.Nat.{ℕ};
 ghost use lib.ListN.{length};
 ghost use Rattle.std.specs.Results.{Cases};
-ghost use Rattle.std.specs.declared.result.Result.the-variants.{Ok, Err};
+ghost use Rattle.std.specs.declared.result.Result.the-variants.{Err};
 ghost use Rattle.classes.specs.declared.Ownership.{Ownership};
 ghost use Rattle.netlists.specs.Netlists.{Netlist};
 ghost use Rattle.netlists.specs.Placing.{afterStart, afterPlace, afterOutput, rowAsked, outputAsked};
 ghost use Rattle.netlists.specs.Lawful.{Lawful};
 ghost use Rattle.netlists.specs.Meaning.{Placed};
+ghost use Rattle.networks.specs.Calls.{Answers};
 use classes::Ownership;
 use netlists::Fanins;
 use netlists::Refusal;
@@ -32,17 +33,17 @@ pub trait Network {
 
     /// Empties the network and gives it inputs.
     fn start(&mut self, inputs: usize) -> Result<(), Refusal>
-        ensures answer { λ r. ⌜ Cases r (λ _. afterStart inputs ≡ Ok (netlist (now (self .exit)))) (λ e. (afterStart inputs ≡ Err e) × (now (self .exit) ≡ now (self .entry))) ⌝ }
+        ensures answer { λ r. ⌜ Answers (afterStart inputs) r (λ _. netlist (now (self .exit))) (now (self .exit) ≡ now (self .entry)) ⌝ }
         ensures kept { λ _. ⌜ places (now (self .exit)) ≡ places (now (self .entry)) ⌝ };
 
     /// Answers a signal that has the table's value at the signals: a constant, a node that is there, or a new last row.
     fn place(&mut self, table: Table, fanins: Fanins) -> Result<Signal, Refusal>
-        ensures answer { λ r. ⌜ Cases r (λ s. afterPlace ownership (places (now (self .entry))) (netlist (now (self .entry))) table fanins ≡ Ok (record { signal = s; netlist = netlist (now (self .exit)) })) (λ e. (afterPlace ownership (places (now (self .entry))) (netlist (now (self .entry))) table fanins ≡ Err e) × (now (self .exit) ≡ now (self .entry))) ⌝ }
+        ensures answer { λ r. ⌜ Answers (afterPlace ownership (places (now (self .entry))) (netlist (now (self .entry))) table fanins) r (λ s. record { signal = s; netlist = netlist (now (self .exit)) }) (now (self .exit) ≡ now (self .entry)) ⌝ }
         ensures kept { λ _. ⌜ places (now (self .exit)) ≡ places (now (self .entry)) ⌝ };
 
     /// Adds an output signal.
     fn output(&mut self, signal: Signal) -> Result<(), Refusal>
-        ensures answer { λ r. ⌜ Cases r (λ _. afterOutput (netlist (now (self .entry))) signal ≡ Ok (netlist (now (self .exit)))) (λ e. (afterOutput (netlist (now (self .entry))) signal ≡ Err e) × (now (self .exit) ≡ now (self .entry))) ⌝ }
+        ensures answer { λ r. ⌜ Answers (afterOutput (netlist (now (self .entry))) signal) r (λ _. netlist (now (self .exit))) (now (self .exit) ≡ now (self .entry)) ⌝ }
         ensures kept { λ _. ⌜ places (now (self .exit)) ≡ places (now (self .entry)) ⌝ };
 
     fn input_count(&self) -> usize
