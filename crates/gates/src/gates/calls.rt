@@ -17,6 +17,9 @@ use normal::normal_form;
 use stores::Store;
 use tables::Table;
 
+/// The most inputs that a network can have.
+pub const MOST_INPUTS: usize = 32;
+
 impl Gates {
     /// A network with no inputs, rows and outputs over these words, which stay as they are. It has as many places as fit into them,
     /// up to 544.
@@ -50,7 +53,7 @@ impl Gates {
         ensures answer { λ r. ⌜ Started (now (self .exit)) inputs r (now (self .exit) ≡ now (self .entry)) ⌝ }
         ensures kept { λ _. ⌜ KeptIn (now (self .entry)) (now (self .exit)) ⌝ }
     {
-        if inputs > 32 {
+        if inputs > MOST_INPUTS {
             return Err(Refusal::TooManyInputs);
         }
         self.store.clear();

@@ -67,7 +67,7 @@ impl Gates {
     pub fn has_node(&self, node: Node) -> bool
         ensures { λ r. ⌜ r ≡ isThere (netlistOf (now (self .entry))) node ⌝ }
     {
-        node.number() as usize <= self.inputs + self.store.len()
+        node.number() as usize <= self.input_count() + self.row_count()
     }
 
     /// Whether the nodes of all four signals are there.
@@ -84,6 +84,6 @@ impl Gates {
     pub fn owns_table(&self, table: Table) -> bool
         ensures { λ r. ⌜ r ≡ owns (ownedBy (now (self .entry))) table ⌝ }
     {
-        is_owned(self.store.coding().ownership(), table)
+        is_owned(self.coding().ownership(), table)
     }
 }

@@ -11,6 +11,9 @@ use netlists::Node;
 use netlists::Refusal;
 use netlists::Signal;
 
+/// The most outputs that a network can have.
+pub const MOST_OUTPUTS: usize = 32;
+
 impl Outputs {
     /// No outputs.
     pub fn none() -> Outputs
@@ -44,7 +47,7 @@ impl Outputs {
         ensures kept { λ r. ⌜ (r ≡ false → now (self .exit) ≡ now (self .entry)) ⌝ }
     {
         let n = self.count;
-        if n >= 32 {
+        if n >= MOST_OUTPUTS {
             return false;
         }
         self.signals[n] = signal;

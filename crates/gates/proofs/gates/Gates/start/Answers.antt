@@ -5,8 +5,8 @@ use Rattle.gates.proofs.Rows.{same-kept}
 use Rattle.gates.proofs.Calls.{new-lawful, started, cleared}
 use Rattle.gates.proofs.gates.Gates.start.Needs as need
 
-pub returns-then-inputs-gt32 : need.returns-then-inputs-gt32
-returns-then-inputs-gt32 c = record { answer = (start-many (c .args .inputs) (c .if-inputs-gt32 .taken), refl); kept = same-kept (c .args .self .now .store) }
+pub returns-then-inputs-gt-MOST-INPUTS : need.returns-then-inputs-gt-MOST-INPUTS
+returns-then-inputs-gt-MOST-INPUTS c = record { answer = (start-many (c .args .inputs) (c .if-inputs-gt-MOST-INPUTS .taken), refl); kept = same-kept (c .args .self .now .store) }
 
 pub ghost-self : need.ghost-self
 ghost-self c = (∣ new-lawful (c .clear .last .self) (c .clear-2 .last .self) (c .args .inputs) (omega arith) (c .clear .ensures .rows) (c .clear-2 .ensures) ∣₁, tt)

@@ -4,8 +4,8 @@ use Rattle.std.proofs.shelf.Tests.{true≢false}
 use Rattle.gates.proofs.Signals.{signals-count, signals-more}
 use Rattle.gates.proofs.outputs.Outputs.push.Needs as need
 
-pub returns-then-n-ge32 : need.returns-then-n-ge32
-returns-then-n-ge32 c =
+pub returns-then-n-ge-MOST-OUTPUTS : need.returns-then-n-ge-MOST-OUTPUTS
+returns-then-n-ge-MOST-OUTPUTS c =
     let e = signals-count (c .args .self .now) in
     record { answer = omega arith; kept = λ _. refl }
 
