@@ -1,5 +1,6 @@
 // The search for the least image among all 768, sixteen at a time.
 ghost use mathlib.Core.Path.{_≡_};
+ghost use mathlib.Core.Bool.{false};
 ghost use Prim.Native.Nat.{ℕ, _+_, _*_, _<_, _≤_};
 ghost use lib.ListN.{getD};
 ghost use Rattle.classes.specs.Images.{image, transformAt, classOf, LeastImage, FirstTo, NamesClass, Recovers};
@@ -33,6 +34,18 @@ fn nth_transform(n: usize) -> Transform
     }
 }
 
+// The image of `f` under an order, with nothing inverted.
+fn plain_image(f: Table, order: Order) -> Table
+    ensures { λ r. ⌜ r ≡ image (record { output = false; order = order; mask = 0 }) f ⌝ }
+{
+    let t = Transform {
+        output: false,
+        order,
+        mask: 0,
+    };
+    t.image_of(f)
+}
+
 // The images of `f` under order `q`, by the mask: each from one that differs in one input.
 fn order_images(f: Table, q: usize) -> [Table; 16]
     requires { ⌜ q < 24 ⌝ }
@@ -41,11 +54,7 @@ fn order_images(f: Table, q: usize) -> [Table; 16]
     let order = nth_order(q);
     let (a, b) = (order.place(Variable::V0), order.place(Variable::V1));
     let (c, d) = (order.place(Variable::V2), order.place(Variable::V3));
-    let t0 = Transform {
-        output: false,
-        order,
-        mask: 0,
-    }.image_of(f);
+    let t0 = plain_image(f, order);
     let t1 = flip_variable(t0, a);
     let t2 = flip_variable(t0, b);
     let t3 = flip_variable(t1, b);
