@@ -33,13 +33,13 @@ impl Generator {
         }
     }
 
-    // A signal of a node that is there, of one of the first few, or of one just past the last.
-    fn signal(&mut self, nodes: u16) -> Signal {
+    // A signal of the constant, of one of the first few nodes, or of any node that a network can have, there or not.
+    fn signal(&mut self) -> Signal {
         let limit = match self.below(16) {
             0 => 1,
-            1 => nodes as u32 + 1,
-            2 | 3 | 4 | 5 | 6 => nodes as u32,
-            _ => (nodes as u32).min(7),
+            1 => 600,
+            2..=6 => 20,
+            _ => 7,
         };
         let number = self.below(limit) % 65536;
         let inverted = self.below(2) == 1;
@@ -48,7 +48,7 @@ impl Generator {
 
     fn table(&mut self) -> Table {
         match self.below(8) {
-            0 | 1 => 0x8888,
+            0..=1 => 0x8888,
             2 => 0xEEEE,
             3 => 0x6666,
             4 => 0xE8E8,
@@ -58,35 +58,16 @@ impl Generator {
         }
     }
 
-    /// The next call, for a network with so many nodes.
-    pub fn call(&mut self, nodes: u16) -> Call {
+    /// The next call. It does not depend on a network, so that every kind gets the same calls.
+    pub fn call(&mut self) -> Call {
         match self.below(256) {
-            0 => Call::Start(self.below(36) as usize),
-            1
-            | 2
-            | 3
-            | 4
-            | 5
-            | 6
-            | 7
-            | 8
-            | 9
-            | 10
-            | 11
-            | 12
-            | 13
-            | 14
-            | 15
-            | 16
-            | 17
-            | 18
-            | 19
-            | 20 => Call::Output(self.signal(nodes)),
+            0 => Call::Start(4 + self.below(32) as usize),
+            1..=20 => Call::Output(self.signal()),
             _ => {
-                let a = self.signal(nodes);
-                let b = self.signal(nodes);
-                let c = self.signal(nodes);
-                let d = self.signal(nodes);
+                let a = self.signal();
+                let b = self.signal();
+                let c = self.signal();
+                let d = self.signal();
                 Call::Place(self.table(), Fanins { a, b, c, d })
             }
         }

@@ -11,6 +11,7 @@ use kinds::and::calls::AndNetworkNetwork;
 use kinds::and_xor::calls::AndXorNetworkNetwork;
 use kinds::majority::calls::MajorityNetworkNetwork;
 use kinds::table::calls::TableNetworkNetwork;
+use runs::MARK;
 use runs::Tally;
 use runs::drive;
 use std::alloc::AllocError;
@@ -19,23 +20,32 @@ use std::io;
 
 // All four kinds, over as many words each.
 fn all_kinds(heap: Global, words: usize) -> Result<[Tally; 4], AllocError> {
-    let mut and = AndNetwork::new(vec![in heap; 0u16; words]?);
-    let mut and_xor = AndXorNetwork::new(vec![in heap; 0u16; words]?);
-    let mut majority = MajorityNetwork::new(vec![in heap; 0u16; words]?);
-    let mut table = TableNetwork::new(vec![in heap; 0u16; words]?);
+    let mut and = AndNetwork::new(vec![in heap; MARK; words]?);
+    let mut and_xor = AndXorNetwork::new(vec![in heap; MARK; words]?);
+    let mut majority = MajorityNetwork::new(vec![in heap; MARK; words]?);
+    let mut table = TableNetwork::new(vec![in heap; MARK; words]?);
+    let by_and = drive(heap, &mut and)?;
+    let by_and_xor = drive(heap, &mut and_xor)?;
+    let by_majority = drive(heap, &mut majority)?;
+    let by_table = drive(heap, &mut table)?;
     Ok([
-        drive(heap, &mut and)?,
-        drive(heap, &mut and_xor)?,
-        drive(heap, &mut majority)?,
-        drive(heap, &mut table)?,
+        by_and.with_words(and.into_words().as_slice(), words, 2),
+        by_and_xor.with_words(and_xor.into_words().as_slice(), words, 2),
+        by_majority.with_words(majority.into_words().as_slice(), words, 3),
+        by_table.with_words(table.into_words().as_slice(), words, 5),
     ])
 }
 
 fn show(rt: &LibcRuntime, name: &str, tally: Tally) -> io::Result<()> {
     println!(
         rt,
-        "{name}: accepted {}, refused by 9 {}, by 10 {}, by 11 {}; differences {}",
-        tally.accepted, tally.refused_9, tally.refused_10, tally.refused_11, tally.different
+        "{name}: accepted {}, refused by 9 {}, by 10 {}, by 11 {}; most rows {}; differences {}",
+        tally.accepted,
+        tally.refused_9,
+        tally.refused_10,
+        tally.refused_11,
+        tally.most_rows,
+        tally.different
     )
 }
 

@@ -10,7 +10,11 @@ use networks::Network;
 use std::alloc::AllocError;
 use std::alloc::Global;
 
-/// How many calls were accepted, how many were refused by number, and how often network and model differed.
+/// What the words hold before a run.
+pub const MARK: u16 = 0xABCD;
+
+/// How many calls were accepted, how many were refused by number, how often network and model differed, and the most rows at any
+/// time.
 #[derive(Clone, Copy)]
 pub struct Tally {
     pub accepted: u32,
@@ -18,6 +22,7 @@ pub struct Tally {
     pub refused_10: u32,
     pub refused_11: u32,
     pub different: u32,
+    pub most_rows: usize,
 }
 
 // What a call came to: the number of its signal, or of its refusal.
@@ -121,6 +126,18 @@ impl Tally {
     }
 }
 
+impl Tally {
+    /// Compares the words that a run gives back: as many as it was given, and those past the most rows as they were.
+    pub fn with_words(mut self, words: &[u16], given: usize, width: usize) -> Tally {
+        self.differ(words.len() != given);
+        let used = self.most_rows.saturating_mul(width);
+        for (i, word) in words.iter().enumerate() {
+            self.differ(i >= used && *word != MARK);
+        }
+        self
+    }
+}
+
 /// Makes 3000 calls on a network just opened, and compares as it goes.
 pub fn drive<N: Network>(heap: Global, net: &mut N) -> Result<Tally, AllocError> {
     let mut generator = Generator::new();
@@ -130,6 +147,7 @@ pub fn drive<N: Network>(heap: Global, net: &mut N) -> Result<Tally, AllocError>
         refused_10: 0,
         refused_11: 0,
         different: 0,
+        most_rows: 0,
     };
     let mut model = Model {
         inputs: 0,
@@ -142,12 +160,13 @@ pub fn drive<N: Network>(heap: Global, net: &mut N) -> Result<Tally, AllocError>
         let call = if turn == 0 {
             Call::Start(8)
         } else {
-            generator.call(model.node_count())
+            generator.call()
         };
         let outcome = ask(net, call);
         let expected = expect(&mut model, call)?;
         tally.add(outcome);
         tally.differ(outcome != expected);
+        tally.most_rows = tally.most_rows.max(net.row_count());
         if turn % 50 == 49 {
             tally.compare(&*net, &model);
         }
