@@ -1,4 +1,6 @@
 // NPN classes of tables: images under transforms, the representative, and the transform that reaches it.
+#![tactic(auto)]
+
 pub mod owned;
 pub mod search;
 

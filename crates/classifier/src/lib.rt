@@ -1,4 +1,6 @@
 // NPN classes of tables: the least image among all 768, sixteen at a time, and the first transform that reaches it.
+#![tactic(auto)]
+
 ghost use Rattle.std.specs.Prelude.{◌≡◌, ℕ, ◌+◌, ◌*◌, ◌<◌, ◌≤◌, slice_index};
 ghost use Rattle.tables.specs.Tables.{complement};
 ghost use Rattle.transforms.specs.Images.{image, transform_at};

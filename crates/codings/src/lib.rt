@@ -1,4 +1,6 @@
 // How a row of a network is written as 16-bit words: the four codings.
+#![tactic(auto)]
+
 pub mod coded;
 pub mod coding;
 mod packing;

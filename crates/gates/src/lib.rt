@@ -1,4 +1,6 @@
 // Networks of gates over words that the caller gives, for every coding of rows.
+#![tactic(auto)]
+
 pub mod gates;
 mod keeping;
 pub mod outputs;

@@ -1,4 +1,6 @@
 // The four kinds of network. Each is a network of gates whose coding never changes.
+#![tactic(auto)]
+
 pub mod and;
 pub mod and_xor;
 pub mod majority;

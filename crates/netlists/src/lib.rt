@@ -1,4 +1,6 @@
 // Nodes, signals and rows, and why a call is refused.
+#![tactic(auto)]
+
 ghost use Rattle.std.specs.Prelude.{◌≡◌, ◌+◌, ◌*◌, if◌then◌else◌};
 ghost use Rattle.netlists.specs.Refusals.{number_of};
 

@@ -1,6 +1,8 @@
 // Measures how many place calls a second each kind of network takes at 50, 200 and 500 rows, for rows that are new and for rows
 // that are there already. Its argument is the number of rounds. With none it measures and prints nothing, since the numbers
 // differ from run to run and what a program writes is compared: give the built program an argument by hand.
+#![tactic(auto)]
+
 use kinds::{AndNetwork, AndXorNetwork, MajorityNetwork, TableNetwork};
 use netlists::{Fanins, Node};
 use networks::Network;

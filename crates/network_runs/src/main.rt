@@ -1,4 +1,6 @@
 // Drives the four kinds of network through the same calls, and compares each answer and every row with a plain model.
+#![tactic(auto)]
+
 mod calls;
 mod model;
 mod runs;

@@ -1,4 +1,6 @@
 // One interface for every kind of network, with its contract on the netlist alone.
+#![tactic(auto)]
+
 pub mod copies;
 pub mod sweeps;
 

@@ -1,4 +1,6 @@
 // The normal form of a table over four signals, sixteen bits at a time.
+#![tactic(auto)]
+
 ghost use Rattle.std.specs.Prelude.{◌≡◌};
 ghost use Rattle.tables.specs.Swaps.{swapped, joined};
 ghost use Rattle.netlists.specs.Normal.{none, node_at, with_node, with_table, turned, entered, grounded, unified, trimmed, precedes, ordered, all_grounded, all_unified, all_trimmed, all_ordered, reduced, settled, normal};

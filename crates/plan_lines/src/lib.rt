@@ -1,4 +1,6 @@
 // The lines of a plan: each is one place call, a table over four literals.
+#![tactic(auto)]
+
 pub mod lines;
 
 ghost use Rattle.std.specs.Prelude.{◌≡◌};

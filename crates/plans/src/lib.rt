@@ -1,4 +1,6 @@
 // Plans: a table as lines that each are one place call.
+#![tactic(auto)]
+
 pub mod lines;
 pub mod writer;
 

@@ -1,5 +1,7 @@
 // Reads tables on standard input, one to a line, and prints an account of each: its class, the transform that reaches
 // the representative, and the plan that each kind of network takes.
+#![tactic(auto)]
+
 mod account;
 mod kinds;
 mod names;

@@ -1,3 +1,5 @@
 // Plain calculations for the programs that compare: slow, by the definitions, and with nothing taken from what they are compared with.
+#![tactic(auto)]
+
 pub mod plans;
 pub mod tables;

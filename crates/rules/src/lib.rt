@@ -1,4 +1,6 @@
 // Which rule writes a table: the first that fits.
+#![tactic(auto)]
+
 ghost use Rattle.std.specs.Prelude.{◌≡◌};
 ghost use Rattle.rules.specs.Fits.{Fits};
 ghost use Rattle.rules.specs.Rules.{trivial_rule, simple_rule, first_simple, exclusive_in, first_exclusive, rule_of};

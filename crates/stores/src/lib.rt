@@ -1,4 +1,6 @@
 // The rows of a network, kept in order in the caller's 16-bit words.
+#![tactic(auto)]
+
 mod blocks;
 pub mod store;
 

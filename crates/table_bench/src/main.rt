@@ -1,6 +1,8 @@
 // Measures how many tables a second the class search and the plan writer take, beside the plain definition of a class. Its argument
 // is the number of rounds. With none it measures and prints nothing, since the numbers differ from run to run and what a
 // program writes is compared: give the built program an argument by hand.
+#![tactic(auto)]
+
 mod plain;
 
 use classes::Ownership;

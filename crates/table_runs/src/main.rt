@@ -1,5 +1,7 @@
 // Runs every table through the class search and, for each ownership, through the plan writer. What they answer is compared with
 // slow calculations of this program's own, one bit at a time, and totals are printed.
+#![tactic(auto)]
+
 mod by_hand;
 mod class_check;
 mod plan_check;

@@ -1,5 +1,7 @@
 // Runs every table through the classes and, for each of the eight ownerships, through the plan writer, and compares all that
 // they answer with the reference. Answers that are spoiled on purpose go through the same comparisons.
+#![tactic(auto)]
+
 mod compare;
 mod controls;
 mod runs;

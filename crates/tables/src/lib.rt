@@ -1,4 +1,6 @@
 // Tables of four variables: values, cofactors, support and composition, sixteen bits at a time.
+#![tactic(auto)]
+
 ghost use Rattle.std.specs.Prelude.{◌≡◌, ◌+◌, ◌^◌, ◌<◌, ◌≤◌, true, false, if◌then◌else◌};
 ghost use Rattle.tables.specs.Bits.{bit};
 ghost use Rattle.tables.specs.Settings.{Setting, span_of};

@@ -1,4 +1,6 @@
 // The 768 transforms of tables of four variables, and the images that they give.
+#![tactic(auto)]
+
 ghost use Rattle.std.specs.Prelude.{◌≡◌, ◌<◌, true, false};
 ghost use Rattle.tables.specs.Bits.{bit, inverted};
 ghost use Rattle.tables.specs.Settings.{Setting, get};

@@ -1,4 +1,6 @@
 // The worked cases: values from outside the code, as theorems about the definitions.
+#![tactic(auto)]
+
 ghost use Rattle.std.specs.Prelude.{◌≡◌, length};
 ghost use Rattle.classes.specs.Images.{representative};
 ghost use Rattle.plans.specs.Plans.{plan_of};
