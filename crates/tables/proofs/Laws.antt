@@ -1,14 +1,13 @@
 -- The laws of tables that proofs use: a table is determined by its values, and every function of four variables has one.
-use Rattle.std.proofs.Common.{◌≡◌, ℕ, zero, suc, ◌+◌, ◌-◌, ◌*◌, ◌/◌, ◌%◌, ◌^◌, ◌<◌, ◌≤◌, Bool, true, false, cond, not, ◌&&◌, ◌||◌, T, eqb, ltb, List, [], ◌∷◌, map, length, get_or, sym, refl, ap, ◌∙◌, subst, ap₂, add-zero, mod-eq_of_lt, div-one, arith, lit<}
+use Rattle.std.proofs.Common.{◌≡◌, ℕ, ◌+◌, ◌-◌, ◌*◌, ◌/◌, ◌%◌, ◌^◌, ◌<◌, Bool, true, false, cond, not, ◌&&◌, ◌||◌, eqb, List, [], ◌∷◌, map, get_or, sym, refl, ap, ◌∙◌, ap₂, add-zero, mod-eq_of_lt, div-one, arith, lit<}
 use lib.Bits.{bit_and, bit_or, or_lt, and_lt, and_mask}
-use Rattle.std.specs.List.{range_with_len}
 use Rattle.std.proofs.lemmas.Bool.{ne_eqb}
 use Rattle.tables.specs.declared.Variable.{Variable}
 use Rattle.tables.specs.declared.Variable.TheVariants.{V0, V1, V2, V3}
-use Rattle.tables.specs.Bits.{bit, from_bits, inverted}
+use Rattle.tables.specs.Bits.{bit, from_bits}
 use Rattle.tables.specs.Settings.{Setting, get, put, index, setting, settings, span_of}
-use Rattle.tables.specs.Tables.{value, table_of, variable, complement, chosen, cofactor, depends_on, flipped, composed}
-use Rattle.tables.proofs.Bitwise.{bit-and, bit-or, bit_shr, bit_shl, bit_not, shifted, bit-from_bits, from_bits_lt, from_bits_bits, same_bits}
+use Rattle.tables.specs.Tables.{value, table_of, variable, complement, chosen, cofactor, flipped, composed}
+use Rattle.tables.proofs.Bitwise.{bit-and, bit-or, bit_shr, bit_shl, bit_not, shifted, bit-from_bits, from_bits_lt, from_bits_bits}
 
 -- a claim about all settings, at each of the sixteen
 pub every_setting : (P : Setting → Type 0)

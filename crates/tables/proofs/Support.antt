@@ -1,12 +1,11 @@
 -- The support of a table: what it ignores, how it falls, and the tables of one variable or none.
-use Rattle.std.proofs.Common.{◌≡◌, ℕ, zero, suc, ◌+◌, ◌<◌, ◌≤◌, Bool, true, false, cond, not, eqb, ◌⊎◌, sym, refl, ap, ◌∙◌, subst, inl, inr, arith}
-use Rattle.std.proofs.lemmas.Bool.{eqb-true, eq-eqb, eqb-false}
+use Rattle.std.proofs.Common.{◌≡◌, ℕ, ◌+◌, ◌<◌, ◌≤◌, Bool, true, false, cond, not, ◌⊎◌, sym, refl, ap, ◌∙◌, inl, inr, arith}
+use Rattle.std.proofs.lemmas.Bool.{eqb-true, eq-eqb}
 use Rattle.tables.specs.declared.Variable.{Variable}
 use Rattle.tables.specs.declared.Variable.TheVariants.{V0, V1, V2, V3}
-use Rattle.tables.specs.Bits.{from_bits}
 use Rattle.tables.specs.Settings.{Setting, get, put, setting}
 use Rattle.tables.specs.Tables.{value, table_of, cofactor, depends_on, support_size}
-use Rattle.tables.proofs.Laws.{value-table_of, table_of_same, is_table_of, value-cofactor, cofactor_lt, same_values}
+use Rattle.tables.proofs.Laws.{is_table_of, value-cofactor, cofactor_lt, same_values}
 
 -- the value does not change with v
 abbrev pub Ignores : ℕ → Variable → Type 0

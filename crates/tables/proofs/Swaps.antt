@@ -1,12 +1,12 @@
 -- The laws of settings, of the support, and of tables with variables exchanged or joined.
 use Rattle.std.proofs.Common.{◌≡◌, ℕ, ◌<◌, Bool, true, false, cond, not, T, eqb, ◌⊎◌, sym, refl, ap, ◌∙◌, subst, ap₂, inl, inr}
-use Rattle.std.proofs.lemmas.Bool.{eq-eqb, eqb-true, not-false, cond_both}
+use Rattle.std.proofs.lemmas.Bool.{eq-eqb, eqb-true, not-false}
 use Rattle.tables.specs.declared.Variable.{Variable}
 use Rattle.tables.specs.declared.Variable.TheVariants.{V0, V1, V2, V3}
 use Rattle.tables.specs.Settings.{Setting, get, put}
 use Rattle.tables.specs.Tables.{value, table_of, variable, complement, chosen, cofactor, depends_on, flipped}
 use Rattle.tables.specs.Swaps.{exchanged, swapped, joined}
-use Rattle.tables.proofs.Laws.{value-table_of, table_of_lt, table_of_same, same_values, value-variable, value-chosen, value-cofactor, value-flipped, value-complement}
+use Rattle.tables.proofs.Laws.{value-table_of, table_of_lt, table_of_same, same_values, value-variable, value-chosen, value-cofactor, value-complement}
 
 -- ---- variables
 

@@ -1,5 +1,5 @@
 -- Tables with two of their variables exchanged, or read as one.
-use Rattle.std.specs.Prelude.{ℕ, Bool}
+use Rattle.std.specs.Prelude.{ℕ}
 use Rattle.tables.specs.declared.Variable.{Variable}
 use Rattle.tables.specs.Settings.{Setting, get, put}
 use Rattle.tables.specs.Tables.{value, table_of}

@@ -1,5 +1,5 @@
 -- A table is a number below 65536: bit i is its value at the setting of index i.
-use Rattle.std.specs.Prelude.{ℕ, ◌+◌, Bool, true, false, cond, not, List, map, Some, None, Option, ◌==◌}
+use Rattle.std.specs.Prelude.{ℕ, ◌+◌, Bool, true, false, cond, not, map, Some, None, Option, ◌==◌}
 use Rattle.tables.specs.declared.Variable.{Variable}
 use Rattle.tables.specs.declared.Variable.TheVariants.{V0, V1, V2, V3}
 use Rattle.tables.specs.Bits.{bit, from_bits}

@@ -1,5 +1,4 @@
-use Rattle.std.proofs.Common.{◌≡◌, ◌+◌, cond, refl, arith}
-use Rattle.tables.specs.Tables.{value}
+use Rattle.std.proofs.Common.{◌≡◌, ◌+◌, arith}
 use Rattle.tables.proofs.Laws.{chosen-bit}
 use Rattle.tables.proofs.compose_pair.Goals as goal
 

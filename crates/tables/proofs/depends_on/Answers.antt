@@ -1,5 +1,4 @@
 use Rattle.tables.specs.Tables.{depends_on}
-use Rattle.std.proofs.Common.{rules}
 use Rattle.tables.proofs.depends_on.Goals as goal
 
 pub returns : goal.returns

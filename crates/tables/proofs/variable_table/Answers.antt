@@ -1,7 +1,6 @@
-use Rattle.std.proofs.Common.{sym, refl, ap}
+use Rattle.std.proofs.Common.{sym, ap}
 use Rattle.tables.specs.Bits.{from_bits}
 use Rattle.tables.specs.Tables.{table_of, variable}
-use Rattle.tables.specs.declared.Variable.TheVariants.{V0, V1, V2, V3}
 use Rattle.tables.proofs.variable_table.Goals as goal
 
 pub returns-in-V0 : goal.returns-in-V0
