@@ -1,5 +1,5 @@
 -- The least of a list, where it stands first, and what that says of representatives.
-use Rattle.std.proofs.Common.{◌≡◌, ℕ, zero, suc, ◌+◌, ◌-◌, ◌<◌, ◌≤◌, min, Bool, true, false, eqb, ◌⊎◌, List, [], ◌∷◌, map, length, get_or, sym, refl, ap, ◌∙◌, subst, ap₂, inl, inr, suc-le-suc, le_trans, le_of_suc-le-suc, not-suc-le-zero, zero-lt-suc, le_antisymm, arith, lit<}
+use Rattle.std.proofs.Common.{◌≡◌, ℕ, zero, suc, ◌+◌, ◌-◌, ◌<◌, ◌≤◌, Bool, true, false, eqb, List, [], ◌∷◌, map, length, get_or, sym, refl, ap, ◌∙◌, subst, inl, inr, suc-le-suc, le_trans, le_of_suc-le-suc, not-suc-le-zero, zero-lt-suc, le_antisymm, arith, lit<}
 use native.Mathlib.Nat.{min-le_left, min-le_right, le-min, min-eq_left, min-eq_right}
 use Rattle.std.specs.List.{range_with_len}
 use Rattle.std.proofs.lemmas.List.FromFn.{length-map-range_with_len, get_or-map-range_with_len}
@@ -11,7 +11,7 @@ use Rattle.classes.specs.declared.search.Class.{Class}
 use Rattle.classes.specs.Images.{least, counted, place_of, image, images, transform_at, representative, chosen_transform, class_of, IsImage, read_back, LeastImage, FirstTo, NamesClass, Recovers}
 use Rattle.classes.specs.Search.{Lowest, Highest}
 use Rattle.tables.proofs.Laws.{complement_code}
-use Rattle.classes.proofs.Transforms.{Lawful, Numbered, number_of, transform_lawful, image_lt, image-complement, image-first, image-image, image_inverse, composite, composite_lawful, inverse, inverse_lawful, recovered}
+use Rattle.classes.proofs.Transforms.{Lawful, number_of, transform_lawful, image_lt, image-complement, image-first, image-image, image_inverse, composite, composite_lawful, inverse, inverse_lawful, recovered}
 
 -- ---- lists
 

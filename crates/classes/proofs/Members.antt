@@ -1,12 +1,8 @@
 -- The tables of a class are the images of its representative: each class is computed once.
-use Rattle.std.proofs.Common.{◌≡◌, ℕ, zero, suc, ◌+◌, ◌<◌, Bool, true, false, ◌||◌, T, eqb, List, [], ◌∷◌, map, length, get_or, sym, refl, ap, ◌∙◌, subst, suc-le-suc, le_of_suc-le-suc, not-suc-le-zero, zero-lt-suc, arith, lit<}
-use Rattle.std.specs.List.{range_with_len}
+use Rattle.std.proofs.Common.{◌≡◌, ℕ, zero, suc, ◌<◌, Bool, true, false, ◌||◌, T, eqb, List, [], ◌∷◌, length, get_or, sym, refl, ap, ◌∙◌, subst, suc-le-suc, le_of_suc-le-suc, not-suc-le-zero, zero-lt-suc, arith}
 use Rattle.std.proofs.lemmas.Bool.{eq-eqb, ne_eqb, eqb-true, eqb-false}
-use Rattle.tables.specs.Bits.{bit, from_bits}
-use Rattle.tables.specs.Tables.{value, table_of}
 use Rattle.tables.proofs.Every.{both, both_left, both_right}
-use Rattle.classes.specs.Orders.{orders}
-use Rattle.classes.specs.Images.{image, images, transform_at, representative, IsImage}
+use Rattle.classes.specs.Images.{images, representative, IsImage}
 use Rattle.classes.specs.Owned.{member}
 use Rattle.classes.proofs.Variables.{truth}
 use Rattle.classes.proofs.Least.{image_same, same_image, at-images, length-images}

@@ -5,6 +5,6 @@ use Rattle.rules.proofs.choose_rule.Goals as goal
 
 pub returns : goal.returns
 returns c = record {
-  rule = c.first-rule.ensures;
-  fits = subst (Fits c.args.own c.args.h) (sym c.first-rule.ensures) (rule_fits c.args.own c.args.h (omega arith));
+  rule = c.first_rule.ensures;
+  fits = subst (Fits c.args.own c.args.h) (sym c.first_rule.ensures) (rule_fits c.args.own c.args.h (omega arith));
 }

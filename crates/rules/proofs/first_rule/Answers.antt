@@ -10,17 +10,17 @@ pub returns-then-own : goal.returns-then-own
 unfolding rule_of
 returns-then-own c = search rules
 
-pub returns-in-Some-first-simple : goal.returns-in-Some-first-simple
+pub returns-in-Some-first_simple : goal.returns-in-Some-first_simple
 unfolding rule_of
-returns-in-Some-first-simple c = search rules
+returns-in-Some-first_simple c = search rules
 
-pub returns-in-Some-first-exclusive : goal.returns-in-Some-first-exclusive
+pub returns-in-Some-first_exclusive : goal.returns-in-Some-first_exclusive
 unfolding rule_of
-returns-in-Some-first-exclusive c = search rules
+returns-in-Some-first_exclusive c = search rules
 
-pub returns-in-Some-lowest-variable : goal.returns-in-Some-lowest-variable
+pub returns-in-Some-lowest_variable : goal.returns-in-Some-lowest_variable
 unfolding rule_of
-returns-in-Some-lowest-variable c = search rules
+returns-in-Some-lowest_variable c = search rules
 
 pub returns-in-None : goal.returns-in-None
 unfolding rule_of

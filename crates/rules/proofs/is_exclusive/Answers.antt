@@ -5,4 +5,4 @@ use Rattle.rules.proofs.is_exclusive.Goals as goal
 
 pub returns : goal.returns
 unfolding exclusive_in
-returns c = ap₂ eqb c.low-cofactor.ensures (c.invert.ensures ∙ ap complement c.high-cofactor.ensures)
+returns c = ap₂ eqb c.low_cofactor.ensures (c.invert.ensures ∙ ap complement c.high_cofactor.ensures)

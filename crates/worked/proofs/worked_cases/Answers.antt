@@ -12,4 +12,4 @@ use Rattle.worked.proofs.worked_cases.Goals as goal
 
 pub returns : goal.returns
 unfolding representative images transform_at orders image value table_of bit from_bits complement cofactor depends_on chosen_transform simple_rule exclusive_in rule_of write plan_of flipped swapped joined entered grounded unified trimmed ordered all_grounded all_unified all_trimmed all_ordered reduced settled normal place_form after_place
-returns c = record { conjunction = refl; exclusive = refl; majority = refl; exclusive-lines = refl; opposites = λ o places. refl; majority-lines = refl }
+returns c = record { conjunction = refl; exclusive = refl; majority = refl; exclusive_lines = refl; opposites = λ o places. refl; majority_lines = refl }

@@ -5,4 +5,4 @@ use Rattle.tables.specs.Settings.{get}
 use Rattle.classes.proofs.Transform.input_table.Goals as goal
 
 pub returns : goal.returns
-returns c = λ x. c.literal-table.ensures x ∙ ap₂ (λ (b : Bool) (v : Variable). inverted b (get x v)) c.inverts.ensures c.place.ensures
+returns c = λ x. c.literal_table.ensures x ∙ ap₂ (λ (b : Bool) (v : Variable). inverted b (get x v)) c.inverts.ensures c.place.ensures

@@ -1,9 +1,7 @@
 use Rattle.std.proofs.Common.{ℕ, ◌/◌, ◌%◌, eqb, sym, ap, ◌∙◌, div-one}
 use lib.Bits.{and_mask}
-use Rattle.tables.specs.declared.Variable.{Variable}
 use Rattle.tables.specs.Bits.{bit}
 use Rattle.classes.specs.Images.{mask_at}
-use Rattle.tables.specs.declared.Variable.TheVariants.{V0, V1, V2, V3}
 use Rattle.classes.proofs.Transform.inverts.Goals as goal
 
 pub returns-in-V0 : goal.returns-in-V0

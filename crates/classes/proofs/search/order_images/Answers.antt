@@ -1,5 +1,5 @@
 -- The sixteen masks: each differs from an earlier one in one bit.
-use Rattle.std.proofs.Common.{◌≡◌, ℕ, ◌+◌, ◌*◌, false, List, [], ◌∷◌, sym, refl, ap, ◌∙◌}
+use Rattle.std.proofs.Common.{◌≡◌, ℕ, false, List, [], ◌∷◌, sym, refl, ap, ◌∙◌}
 use Rattle.tables.specs.declared.Variable.{Variable}
 use Rattle.tables.specs.declared.Variable.TheVariants.{V0, V1, V2, V3}
 use Rattle.tables.specs.Bits.{bit, inverted}
@@ -80,26 +80,26 @@ toggled-15 = each (λ j. mask_at 15 j ≡ inverted (same_variable V3 j) (mask_at
 pub returns : goal.returns
 returns c = λ m h.
     let g : ℕ → ℕ = λ n. image (record { output = false; order = order_at c.args.q; mask = n }) c.args.f in
-    let e0 : c.plain-image-t0.result ≡ g 0 = c.plain-image-t0.ensures ∙ ap (λ (o : Order). image (record { output = false; order = o; mask = 0 }) c.args.f) c.nth-order-order.ensures in
-    let at_a : c.place-a.result ≡ at (order_at c.args.q) V0 = c.place-a.ensures ∙ ap (λ (o : Order). at o V0) c.nth-order-order.ensures in
-    let at_b : c.place-b.result ≡ at (order_at c.args.q) V1 = c.place-b.ensures ∙ ap (λ (o : Order). at o V1) c.nth-order-order.ensures in
-    let at_c : c.place-c.result ≡ at (order_at c.args.q) V2 = c.place-c.ensures ∙ ap (λ (o : Order). at o V2) c.nth-order-order.ensures in
-    let at-d : c.place-d.result ≡ at (order_at c.args.q) V3 = c.place-d.ensures ∙ ap (λ (o : Order). at o V3) c.nth-order-order.ensures in
-    let e1 : c.flip-variable-t1.result ≡ g 1 = flipped_to c.plain-image-t0.result c.flip-variable-t1.result c.args.f c.args.q 0 1 V0 c.place-a.result c.requires e0 at_a c.flip-variable-t1.ensures toggled-1 in
-    let e2 : c.flip-variable-t2.result ≡ g 2 = flipped_to c.plain-image-t0.result c.flip-variable-t2.result c.args.f c.args.q 0 2 V1 c.place-b.result c.requires e0 at_b c.flip-variable-t2.ensures toggled-2 in
-    let e3 : c.flip-variable-t3.result ≡ g 3 = flipped_to c.flip-variable-t1.result c.flip-variable-t3.result c.args.f c.args.q 1 3 V1 c.place-b.result c.requires e1 at_b c.flip-variable-t3.ensures toggled-3 in
-    let e4 : c.flip-variable-t4.result ≡ g 4 = flipped_to c.plain-image-t0.result c.flip-variable-t4.result c.args.f c.args.q 0 4 V2 c.place-c.result c.requires e0 at_c c.flip-variable-t4.ensures toggled-4 in
-    let e5 : c.flip-variable-t5.result ≡ g 5 = flipped_to c.flip-variable-t1.result c.flip-variable-t5.result c.args.f c.args.q 1 5 V2 c.place-c.result c.requires e1 at_c c.flip-variable-t5.ensures toggled-5 in
-    let e6 : c.flip-variable-t6.result ≡ g 6 = flipped_to c.flip-variable-t2.result c.flip-variable-t6.result c.args.f c.args.q 2 6 V2 c.place-c.result c.requires e2 at_c c.flip-variable-t6.ensures toggled-6 in
-    let e7 : c.flip-variable-t7.result ≡ g 7 = flipped_to c.flip-variable-t3.result c.flip-variable-t7.result c.args.f c.args.q 3 7 V2 c.place-c.result c.requires e3 at_c c.flip-variable-t7.ensures toggled-7 in
-    let e8 : c.flip-variable-t8.result ≡ g 8 = flipped_to c.plain-image-t0.result c.flip-variable-t8.result c.args.f c.args.q 0 8 V3 c.place-d.result c.requires e0 at-d c.flip-variable-t8.ensures toggled-8 in
-    let e9 : c.flip-variable-t9.result ≡ g 9 = flipped_to c.flip-variable-t1.result c.flip-variable-t9.result c.args.f c.args.q 1 9 V3 c.place-d.result c.requires e1 at-d c.flip-variable-t9.ensures toggled-9 in
-    let e10 : c.flip-variable-t10.result ≡ g 10 = flipped_to c.flip-variable-t2.result c.flip-variable-t10.result c.args.f c.args.q 2 10 V3 c.place-d.result c.requires e2 at-d c.flip-variable-t10.ensures toggled-10 in
-    let e11 : c.flip-variable-t11.result ≡ g 11 = flipped_to c.flip-variable-t3.result c.flip-variable-t11.result c.args.f c.args.q 3 11 V3 c.place-d.result c.requires e3 at-d c.flip-variable-t11.ensures toggled-11 in
-    let e12 : c.flip-variable-t12.result ≡ g 12 = flipped_to c.flip-variable-t4.result c.flip-variable-t12.result c.args.f c.args.q 4 12 V3 c.place-d.result c.requires e4 at-d c.flip-variable-t12.ensures toggled-12 in
-    let e13 : c.flip-variable-t13.result ≡ g 13 = flipped_to c.flip-variable-t5.result c.flip-variable-t13.result c.args.f c.args.q 5 13 V3 c.place-d.result c.requires e5 at-d c.flip-variable-t13.ensures toggled-13 in
-    let e14 : c.flip-variable-t14.result ≡ g 14 = flipped_to c.flip-variable-t6.result c.flip-variable-t14.result c.args.f c.args.q 6 14 V3 c.place-d.result c.requires e6 at-d c.flip-variable-t14.ensures toggled-14 in
-    let e15 : c.flip-variable-t15.result ≡ g 15 = flipped_to c.flip-variable-t7.result c.flip-variable-t15.result c.args.f c.args.q 7 15 V3 c.place-d.result c.requires e7 at-d c.flip-variable-t15.ensures toggled-15 in
-    let list : List ℕ = c.plain-image-t0.result ∷ c.flip-variable-t1.result ∷ c.flip-variable-t2.result ∷ c.flip-variable-t3.result ∷ c.flip-variable-t4.result ∷ c.flip-variable-t5.result ∷ c.flip-variable-t6.result ∷ c.flip-variable-t7.result ∷ c.flip-variable-t8.result ∷ c.flip-variable-t9.result ∷ c.flip-variable-t10.result ∷ c.flip-variable-t11.result ∷ c.flip-variable-t12.result ∷ c.flip-variable-t13.result ∷ c.flip-variable-t14.result ∷ c.flip-variable-t15.result ∷ [] in
+    let e0 : c.plain_image-t0.result ≡ g 0 = c.plain_image-t0.ensures ∙ ap (λ (o : Order). image (record { output = false; order = o; mask = 0 }) c.args.f) c.nth_order-order.ensures in
+    let at_a : c.place-a.result ≡ at (order_at c.args.q) V0 = c.place-a.ensures ∙ ap (λ (o : Order). at o V0) c.nth_order-order.ensures in
+    let at_b : c.place-b.result ≡ at (order_at c.args.q) V1 = c.place-b.ensures ∙ ap (λ (o : Order). at o V1) c.nth_order-order.ensures in
+    let at_c : c.place-c.result ≡ at (order_at c.args.q) V2 = c.place-c.ensures ∙ ap (λ (o : Order). at o V2) c.nth_order-order.ensures in
+    let at-d : c.place-d.result ≡ at (order_at c.args.q) V3 = c.place-d.ensures ∙ ap (λ (o : Order). at o V3) c.nth_order-order.ensures in
+    let e1 : c.flip_variable-t1.result ≡ g 1 = flipped_to c.plain_image-t0.result c.flip_variable-t1.result c.args.f c.args.q 0 1 V0 c.place-a.result c.requires e0 at_a c.flip_variable-t1.ensures toggled-1 in
+    let e2 : c.flip_variable-t2.result ≡ g 2 = flipped_to c.plain_image-t0.result c.flip_variable-t2.result c.args.f c.args.q 0 2 V1 c.place-b.result c.requires e0 at_b c.flip_variable-t2.ensures toggled-2 in
+    let e3 : c.flip_variable-t3.result ≡ g 3 = flipped_to c.flip_variable-t1.result c.flip_variable-t3.result c.args.f c.args.q 1 3 V1 c.place-b.result c.requires e1 at_b c.flip_variable-t3.ensures toggled-3 in
+    let e4 : c.flip_variable-t4.result ≡ g 4 = flipped_to c.plain_image-t0.result c.flip_variable-t4.result c.args.f c.args.q 0 4 V2 c.place-c.result c.requires e0 at_c c.flip_variable-t4.ensures toggled-4 in
+    let e5 : c.flip_variable-t5.result ≡ g 5 = flipped_to c.flip_variable-t1.result c.flip_variable-t5.result c.args.f c.args.q 1 5 V2 c.place-c.result c.requires e1 at_c c.flip_variable-t5.ensures toggled-5 in
+    let e6 : c.flip_variable-t6.result ≡ g 6 = flipped_to c.flip_variable-t2.result c.flip_variable-t6.result c.args.f c.args.q 2 6 V2 c.place-c.result c.requires e2 at_c c.flip_variable-t6.ensures toggled-6 in
+    let e7 : c.flip_variable-t7.result ≡ g 7 = flipped_to c.flip_variable-t3.result c.flip_variable-t7.result c.args.f c.args.q 3 7 V2 c.place-c.result c.requires e3 at_c c.flip_variable-t7.ensures toggled-7 in
+    let e8 : c.flip_variable-t8.result ≡ g 8 = flipped_to c.plain_image-t0.result c.flip_variable-t8.result c.args.f c.args.q 0 8 V3 c.place-d.result c.requires e0 at-d c.flip_variable-t8.ensures toggled-8 in
+    let e9 : c.flip_variable-t9.result ≡ g 9 = flipped_to c.flip_variable-t1.result c.flip_variable-t9.result c.args.f c.args.q 1 9 V3 c.place-d.result c.requires e1 at-d c.flip_variable-t9.ensures toggled-9 in
+    let e10 : c.flip_variable-t10.result ≡ g 10 = flipped_to c.flip_variable-t2.result c.flip_variable-t10.result c.args.f c.args.q 2 10 V3 c.place-d.result c.requires e2 at-d c.flip_variable-t10.ensures toggled-10 in
+    let e11 : c.flip_variable-t11.result ≡ g 11 = flipped_to c.flip_variable-t3.result c.flip_variable-t11.result c.args.f c.args.q 3 11 V3 c.place-d.result c.requires e3 at-d c.flip_variable-t11.ensures toggled-11 in
+    let e12 : c.flip_variable-t12.result ≡ g 12 = flipped_to c.flip_variable-t4.result c.flip_variable-t12.result c.args.f c.args.q 4 12 V3 c.place-d.result c.requires e4 at-d c.flip_variable-t12.ensures toggled-12 in
+    let e13 : c.flip_variable-t13.result ≡ g 13 = flipped_to c.flip_variable-t5.result c.flip_variable-t13.result c.args.f c.args.q 5 13 V3 c.place-d.result c.requires e5 at-d c.flip_variable-t13.ensures toggled-13 in
+    let e14 : c.flip_variable-t14.result ≡ g 14 = flipped_to c.flip_variable-t6.result c.flip_variable-t14.result c.args.f c.args.q 6 14 V3 c.place-d.result c.requires e6 at-d c.flip_variable-t14.ensures toggled-14 in
+    let e15 : c.flip_variable-t15.result ≡ g 15 = flipped_to c.flip_variable-t7.result c.flip_variable-t15.result c.args.f c.args.q 7 15 V3 c.place-d.result c.requires e7 at-d c.flip_variable-t15.ensures toggled-15 in
+    let list : List ℕ = c.plain_image-t0.result ∷ c.flip_variable-t1.result ∷ c.flip_variable-t2.result ∷ c.flip_variable-t3.result ∷ c.flip_variable-t4.result ∷ c.flip_variable-t5.result ∷ c.flip_variable-t6.result ∷ c.flip_variable-t7.result ∷ c.flip_variable-t8.result ∷ c.flip_variable-t9.result ∷ c.flip_variable-t10.result ∷ c.flip_variable-t11.result ∷ c.flip_variable-t12.result ∷ c.flip_variable-t13.result ∷ c.flip_variable-t14.result ∷ c.flip_variable-t15.result ∷ [] in
     let all : AllFrom g 0 list = (e0, (e1, (e2, (e3, (e4, (e5, (e6, (e7, (e8, (e9, (e10, (e11, (e12, (e13, (e14, (e15, tt)))))))))))))))) in
     at_place_from g list all m h ∙ ap (λ (t : Transform). image t c.args.f) (sym (plain_number c.args.q m c.requires h))

@@ -8,6 +8,6 @@ returns g c =
     let n = g.N.Network.netlist c.args.from.now in
     let room : length n.rows ≤ g.N.Network.places c.args.to.now = omega arith in
     record {
-      copy = whole_copy _ _ _ n (replicate 577 true) c.copy-marked.result _ _ (g.met.N.Network.lawful c.args.from.now) room (λ m h. get_or-replicate 577 m true false h) c.copy-marked.ensures.copy;
-      same = c.copy-marked.ensures.same;
+      copy = whole_copy _ _ _ n (replicate 577 true) c.copy_marked.result _ _ (g.met.N.Network.lawful c.args.from.now) room (λ m h. get_or-replicate 577 m true false h) c.copy_marked.ensures.copy;
+      same = c.copy_marked.ensures.same;
     }

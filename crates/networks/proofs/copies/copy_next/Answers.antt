@@ -4,8 +4,8 @@ use Rattle.networks.proofs.copies.copy_next.Goals as goal
 
 pub returns-then-keep : goal.returns-then-keep
 returns-then-keep g c = record {
-  copy = λ kept e. due_same _ _ c.copy-row.result _ (next_kept _ _ c.args.made _ c.args.signals.now c.args.row kept c.requires (e ∙ c.if-keep.true)) c.copy-row.ensures.copy;
-  same = c.copy-row.ensures.kept;
+  copy = λ kept e. due_same _ _ c.copy_row.result _ (next_kept _ _ c.args.made _ c.args.signals.now c.args.row kept c.requires (e ∙ c.if-keep.true)) c.copy_row.ensures.copy;
+  same = c.copy_row.ensures.kept;
 }
 
 pub returns : goal.returns

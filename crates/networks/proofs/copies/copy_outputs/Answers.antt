@@ -5,25 +5,25 @@ use Rattle.netlists.proofs.Ways.{output_there}
 use Rattle.networks.proofs.Copying.{never, err_due, output_read, out_err, out_more, out_end}
 use Rattle.networks.proofs.copies.copy_outputs.Goals as goal
 
-pub returns-in-err-signal : goal.returns-in-err-signal
-returns-in-err-signal g c =
+pub returns-in_err-signal : goal.returns-in_err-signal
+returns-in_err-signal g c =
     let n = g.N.Network.netlist c.args.from.now in
     let k = c.loop-k.k in
     let lt : k < length n.outputs = omega arith in
-    never (get_or n.outputs k no_signal) c.in-err-signal.field-0.0 c.output-signal.result (c.output-signal.ensures ∙ output_there n k lt) c.in-err-signal.was
+    never (get_or n.outputs k no_signal) c.in_err-signal.field-0.0 c.output_signal.result (c.output_signal.ensures ∙ output_there n k lt) c.in_err-signal.was
 
-pub returns-in-err-output : goal.returns-in-err-output
-returns-in-err-output g c =
+pub returns-in_err-output : goal.returns-in_err-output
+returns-in_err-output g c =
     let n = g.N.Network.netlist c.args.from.now in
     let k = c.loop-k.k in
     let lt : k < length n.outputs = omega arith in
-    let s = output_read n k c.in-ok-signal.signal lt c.in-ok-signal.ensures in
-    let p = err_from_is_err_and c.from-residual-in-err-output.result c.from-residual-in-err-output.ensures.1 in
+    let s = output_read n k c.in_ok-signal.signal lt c.in_ok-signal.ensures in
+    let p = err_from_is_err_and c.from-residual-in_err-output.result c.from-residual-in_err-output.ensures.1 in
     record {
-      copy = err_due _ c.from-residual-in-err-output.result _ c.in-err-output.field-0.0 (p.1 ∙ ap Err p.2)
-          (out_err (take c.args.made c.args.signals.now) n.outputs _ k _ c.in-ok-signal.signal c.signal-through.result c.in-err-output.field-0.0
-          lt s c.signal-through.ensures c.loop-k.invariant.1 c.in-err-output.ensures.answer.0);
-      same = c.in-err-output.ensures.kept ∙ c.loop-k.invariant.0;
+      copy = err_due _ c.from-residual-in_err-output.result _ c.in_err-output.field-0.0 (p.1 ∙ ap Err p.2)
+          (out_err (take c.args.made c.args.signals.now) n.outputs _ k _ c.in_ok-signal.signal c.signal_through.result c.in_err-output.field-0.0
+          lt s c.signal_through.ensures c.loop-k.invariant.1 c.in_err-output.ensures.answer.0);
+      same = c.in_err-output.ensures.kept ∙ c.loop-k.invariant.0;
     }
 
 pub loop-k-preserved : goal.loop-k-preserved
@@ -31,10 +31,10 @@ loop-k-preserved g c =
     let n = g.N.Network.netlist c.args.from.now in
     let k = c.loop-k.k in
     let lt : k < length n.outputs = omega arith in
-    let s = output_read n k c.in-ok-signal.signal lt c.in-ok-signal.ensures in (
-      c.in-ok-output.ensures.kept ∙ c.loop-k.invariant.0,
-      out_more (take c.args.made c.args.signals.now) n.outputs _ k _ _ c.in-ok-signal.signal c.signal-through.result
-          lt s c.signal-through.ensures c.loop-k.invariant.1 c.in-ok-output.ensures.answer,
+    let s = output_read n k c.in_ok-signal.signal lt c.in_ok-signal.ensures in (
+      c.in_ok-output.ensures.kept ∙ c.loop-k.invariant.0,
+      out_more (take c.args.made c.args.signals.now) n.outputs _ k _ _ c.in_ok-signal.signal c.signal_through.result
+          lt s c.signal_through.ensures c.loop-k.invariant.1 c.in_ok-output.ensures.answer,
     )
 
 pub returns : goal.returns

@@ -12,11 +12,11 @@ use Rattle.networks.proofs.sweeps.mark_outputs.Goals as goal
 pub loop-k-init : goal.loop-k-init
 loop-k-init g c =
     let n = g.N.Network.netlist c.args.net.now in
-    let le : length n.outputs ≤ c.output-count-k.result = omega arith in
-    outs_none c.args.marks.now n.outputs c.output-count-k.result le c.requires.1
+    let le : length n.outputs ≤ c.output_count-k.result = omega arith in
+    outs_none c.args.marks.now n.outputs c.output_count-k.result le c.requires.1
 
-pub mark-node-requires : goal.mark-node-requires
-mark-node-requires g c =
+pub mark_node-requires : goal.mark_node-requires
+mark_node-requires g c =
     let n = g.N.Network.netlist c.args.net.now in
     let k = c.loop-k.k - 1 in
     let lt : k < length n.outputs = omega arith in
@@ -33,12 +33,12 @@ loop-k-preserved-in-Ok g c =
     let lt : k - 1 < length n.outputs = omega arith in
     let s = output_read n (k - 1) c.in-Ok.signal lt c.in-Ok.ensures in
     let e : k ≡ k - 1 + 1 = omega arith in
-    outs_more c.mark-node.new.marks n.outputs k (k - 1) c.in-Ok.signal lt e s
-    (subst (λ (x : Node). Marks c.mark-node.new.marks (x.number ∷ output_nodes (drop k n.outputs))) c.node.ensures (c.mark-node.ensures (output_nodes (drop k n.outputs)) c.loop-k.invariant))
+    outs_more c.mark_node.new.marks n.outputs k (k - 1) c.in-Ok.signal lt e s
+    (subst (λ (x : Node). Marks c.mark_node.new.marks (x.number ∷ output_nodes (drop k n.outputs))) c.node.ensures (c.mark_node.ensures (output_nodes (drop k n.outputs)) c.loop-k.invariant))
 
 pub loop-k-preserved : goal.loop-k-preserved
 loop-k-preserved g c =
     let n = g.N.Network.netlist c.args.net.now in
     let k = c.loop-k.k - 1 in
     let lt : k < length n.outputs = omega arith in
-    never (get_or n.outputs k no_signal) c.in-default.field-0 c.output-signal.result (c.output-signal.ensures ∙ output_there n k lt) c.in-default.is
+    never (get_or n.outputs k no_signal) c.in-default.field-0 c.output_signal.result (c.output_signal.ensures ∙ output_there n k lt) c.in-default.is

@@ -6,4 +6,4 @@ returns c = λ ws h.
     let d = c.args.row.d.number ∷ ws in
     let e = c.args.row.c.number ∷ d in
     let f = c.args.row.b.number ∷ e in
-    c.mark-node-4.ensures f (c.mark-node-3.ensures e (c.mark-node-2.ensures d (c.mark-node.ensures ws h)))
+    c.mark_node-4.ensures f (c.mark_node-3.ensures e (c.mark_node-2.ensures d (c.mark_node.ensures ws h)))

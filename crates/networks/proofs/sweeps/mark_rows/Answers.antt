@@ -11,12 +11,12 @@ use Rattle.networks.proofs.sweeps.mark_rows.Goals as goal
 pub loop-k-init : goal.loop-k-init
 loop-k-init g c =
     let n = g.N.Network.netlist c.args.net.now in
-    let k = c.row-count-k.result in
+    let k = c.row_count-k.result in
     let le : length n.rows ≤ k = omega arith in
     λ ws h. rows_none c.args.marks.now n.rows (n.inputs + 1 + k) k ws le h
 
-pub claim-row-requires : goal.claim-row-requires
-claim-row-requires g c =
+pub claim_row-requires : goal.claim_row-requires
+claim_row-requires g c =
     let n = g.N.Network.netlist c.args.net.now in
     let law = g.met.N.Network.lawful c.args.net.now in
     let k = c.loop-k.k - 1 in
@@ -35,9 +35,9 @@ loop-k-preserved-in-Ok g c =
     let lt : k - 1 < length n.rows = omega arith in
     let r = row_read n (k - 1) c.in-Ok.row lt c.in-Ok.ensures in
     let e : k ≡ k - 1 + 1 = omega arith in
-    let at : c.input-count-inputs.result + 1 + (k - 1) ≡ n.inputs + 1 + (k - 1) = omega arith in
-    λ ws h. rows_claimed c.claim-row.new.marks n.rows n.inputs (c.input-count-inputs.result + 1 + (k - 1)) k (k - 1) c.in-Ok.row ws lt e r at
-    (c.claim-row.ensures (claims (n.inputs + 1 + k) (drop k n.rows) ws) (c.loop-k.invariant ws h))
+    let at : c.input_count-inputs.result + 1 + (k - 1) ≡ n.inputs + 1 + (k - 1) = omega arith in
+    λ ws h. rows_claimed c.claim_row.new.marks n.rows n.inputs (c.input_count-inputs.result + 1 + (k - 1)) k (k - 1) c.in-Ok.row ws lt e r at
+    (c.claim_row.ensures (claims (n.inputs + 1 + k) (drop k n.rows) ws) (c.loop-k.invariant ws h))
 
 pub loop-k-preserved : goal.loop-k-preserved
 loop-k-preserved g c =

@@ -20,7 +20,7 @@ returns-else-own c = record {
   few = omega arith;
   held = λ base n ls s.
       let e = cond-false c.args.own.xor (one_more n ls (xor_of c.args.p c.args.q)) (either n ls (and_of c.args.p (turned true c.args.q)) (and_of (turned true c.args.p) c.args.q)) c.if-own.false in
-      let one = c.two-of-else-own.ensures ∙ ap (and_of c.args.p) c.turn.ensures in
-      let two = c.two-of-else-own-2.ensures ∙ ap (λ (l : Literal). and_of l c.args.q) c.turn-else-own.ensures in
-      subst (Held c.push-either.new.self c.push-either.result base n) (ap₂ (either n ls) one two ∙ sym e) (c.push-either.ensures.held base n ls s);
+      let one = c.two_of-else-own.ensures ∙ ap (and_of c.args.p) c.turn.ensures in
+      let two = c.two_of-else-own-2.ensures ∙ ap (λ (l : Literal). and_of l c.args.q) c.turn-else-own.ensures in
+      subst (Held c.push_either.new.self c.push_either.result base n) (ap₂ (either n ls) one two ∙ sym e) (c.push_either.ensures.held base n ls s);
 }

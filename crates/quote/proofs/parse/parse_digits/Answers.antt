@@ -4,18 +4,18 @@ use Rattle.quote.proofs.parse.parse_digits.Goals as goal
 
 pub returns-in-default : goal.returns-in-default
 returns-in-default c =
-    not_hex _ c.if-is-empty.ensures c.if-digits-gt4.false
-    (wrong _ _ _ _ c.loop-b-test.true c.digit-value.ensures.value c.loop-b.invariant (ap is_some c.in-default.is))
+    not_hex _ c.if-is_empty.ensures c.if-digits-gt4.false
+    (wrong _ _ _ _ c.loop-b-test.true c.digit_value.ensures.value c.loop-b.invariant (ap is_some c.in-default.is))
 
 pub overflow-mul-value : goal.overflow-mul-value
 overflow-mul-value c = let low = fits _ _ _ (omega arith) c.loop-b.invariant in omega (arith, low)
 
-pub overflow-add-value : goal.overflow-add-value
-overflow-add-value c = let low = fits _ _ _ (omega arith) c.loop-b.invariant in omega (arith, low, c.in-Some.ensures.low)
+pub overflow-add_value : goal.overflow-add_value
+overflow-add_value c = let low = fits _ _ _ (omega arith) c.loop-b.invariant in omega (arith, low, c.in-Some.ensures.low)
 
 pub loop-b-preserved : goal.loop-b-preserved
 loop-b-preserved c =
-    more _ _ _ _ c.loop-b-test.true c.digit-value.ensures.value c.loop-b.invariant _ c.in-Some.is c.in-Some.ensures.low
+    more _ _ _ _ c.loop-b-test.true c.digit_value.ensures.value c.loop-b.invariant _ c.in-Some.is c.in-Some.ensures.low
 
 pub returns : goal.returns
-returns c = whole _ c.if-is-empty.ensures c.if-digits-gt4.false _ _ c.loop-b-test.false c.loop-b.invariant
+returns c = whole _ c.if-is_empty.ensures c.if-digits-gt4.false _ _ c.loop-b-test.false c.loop-b.invariant

@@ -5,6 +5,6 @@ use Rattle.transforms.proofs.Transform.nth.Goals as goal
 pub returns : goal.returns
 unfolding transform_at
 returns c = record {
-  number = λ i. record { output = leb 384 c.args.n; order = c.nth-order.ensures.number i; mask = c.args.n % 16 };
-  order = c.nth-order.ensures.order;
+  number = λ i. record { output = leb 384 c.args.n; order = c.nth_order.ensures.number i; mask = c.args.n % 16 };
+  order = c.nth_order.ensures.order;
 }

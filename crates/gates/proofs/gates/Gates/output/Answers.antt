@@ -7,15 +7,15 @@ use Rattle.gates.proofs.Rows.{same_kept}
 use Rattle.gates.proofs.Calls.{output_added, output_over, output_still}
 use Rattle.gates.proofs.gates.Gates.output.Goals as goal
 
-pub returns-then-not-has-node : goal.returns-then-not-has-node
-returns-then-not-has-node c =
-    let h = c.if-not-has-node.ensures in
+pub returns-then-not-has_node : goal.returns-then-not-has_node
+returns-then-not-has_node c =
+    let h = c.if-not-has_node.ensures in
     let e : is_there (netlist_of c.args.self.now) c.args.signal.node ≡ false = cc in
     record { answer = (output_missing (netlist_of c.args.self.now) c.args.signal e, refl); kept = same_kept c.args.self.now.store }
 
 pub invariant-of-self : goal.invariant-of-self
 invariant-of-self c =
-    let h = c.if-not-has-node.ensures in
+    let h = c.if-not-has_node.ensures in
     let e : is_there (netlist_of c.args.self.now) c.args.signal.node ≡ true = cc in (
       ∣ output_still c.args.self.now.store c.args.self.now.inputs c.args.self.now.outputs c.push.new.self c.args.signal e
           (gates_lawful c.args.self.now) c.push.result c.push.ensures.answer c.push.ensures.kept ∣₁,
@@ -24,7 +24,7 @@ invariant-of-self c =
 
 pub returns-then-push : goal.returns-then-push
 returns-then-push c =
-    let h = c.if-not-has-node.ensures in
+    let h = c.if-not-has_node.ensures in
     let e : is_there (netlist_of c.args.self.now) c.args.signal.node ≡ true = cc in
     record {
       answer = output_added c.args.self.now.store c.args.self.now.inputs c.args.self.now.outputs c.push.new.self c.args.signal e c.if-push.ensures.answer;
@@ -33,7 +33,7 @@ returns-then-push c =
 
 pub returns-else-push : goal.returns-else-push
 returns-else-push c =
-    let h = c.if-not-has-node.ensures in
+    let h = c.if-not-has_node.ensures in
     let e : is_there (netlist_of c.args.self.now) c.args.signal.node ≡ true = cc in
     record {
       answer = (

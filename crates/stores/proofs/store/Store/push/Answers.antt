@@ -18,8 +18,8 @@ overflow-mul-width c =
     let f = row_fits c.args.self.now c.width-width.result c.args.self.now.count c.width-width.ensures c.if-n-self.false in
     omega arith
 
-pub write-block-requires : goal.write-block-requires
-write-block-requires c = row_fits c.args.self.now c.width-width.result c.args.self.now.count c.width-width.ensures c.if-n-self.false
+pub write_block-requires : goal.write_block-requires
+write_block-requires c = row_fits c.args.self.now c.width-width.result c.args.self.now.count c.width-width.ensures c.if-n-self.false
 
 abbrev Written : Store → Row → List ℕ → Type 0
 Written s r ws = ws ≡ with_block (width_of s) (words_of s) (width_of s * s.count) ((coder s.coding).encode r)
@@ -30,17 +30,17 @@ written s r ws width w ew eb e = cc
 
 pub invariant-of-self : goal.invariant-of-self
 invariant-of-self c =
-    let l = c.write-block.ensures.len in
+    let l = c.write_block.ensures.len in
     let r = c.args.self.now.room in
     let f = row_fits c.args.self.now (width_of c.args.self.now) c.args.self.now.count refl c.if-n-self.false in
     let v = c.args.self.now.words.ok.0 in
     let room : width_of c.args.self.now * c.args.self.now.count + width_of c.args.self.now ≤ length (words_of c.args.self.now) = omega arith in
-    let e : c.args.self.now.places ≡ places_in (width_of c.args.self.now) (vec_len c.write-block.new.words) = cc in
-    let w = written c.args.self.now c.args.row _ _ _ c.width-width.ensures c.encode-block.ensures.words c.write-block.ensures.items in
+    let e : c.args.self.now.places ≡ places_in (width_of c.args.self.now) (vec_len c.write_block.new.words) = cc in
+    let w = written c.args.self.now c.args.row _ _ _ c.width-width.ensures c.encode-block.ensures.words c.write_block.ensures.items in
     let kept = pushed_kept (coder c.args.self.now.coding) (lawful c.args.self.now.coding) (words_of c.args.self.now) c.args.self.now.count c.args.row c.requires room c.args.self.now.kept in
     (e, (omega arith, (subst (λ (ws : List ℕ). (k : ℕ) → k < c.args.self.now.count + 1 → kept_at (coder c.args.self.now.coding) ws k ≡ true) (sym w) kept, tt)))
 
 pub returns : goal.returns
 returns c =
-    let w = written c.args.self.now c.args.row _ _ _ c.width-width.ensures c.encode-block.ensures.words c.write-block.ensures.items in
+    let w = written c.args.self.now c.args.row _ _ _ c.width-width.ensures c.encode-block.ensures.words c.write_block.ensures.items in
     (sym (rows_count c.args.self.now), pushed c.args.self.now _ c.args.row c.requires c.if-n-self.false refl refl refl w)

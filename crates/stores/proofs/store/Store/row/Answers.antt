@@ -16,8 +16,8 @@ overflow-mul-width c =
     let f = row_fits c.args.self.now c.width-width.result c.args.i c.width-width.ensures l in
     omega arith
 
-pub read-block-block-requires : goal.read-block-block-requires
-read-block-block-requires c =
+pub read_block-block-requires : goal.read_block-block-requires
+read_block-block-requires c =
     let w = c.args.self.now.within in
     let l : c.args.i < c.args.self.now.places = omega arith in
     let f = row_fits c.args.self.now c.width-width.result c.args.i c.width-width.ensures l in
@@ -28,7 +28,7 @@ unfolding row_at
 returns c =
     let a = rows_nth (coder c.args.self.now.coding) (words_of c.args.self.now) c.args.self.now.count c.args.i c.if-i-self.false in
     let d = c.decode.ensures in
-    let b = c.read-block-block.ensures in
-    let v = c.as-slice.ensures.value in
+    let b = c.read_block-block.ensures in
+    let v = c.as_slice.ensures.value in
     let w = c.width-width.ensures in
     cc
