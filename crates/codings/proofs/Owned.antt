@@ -1,5 +1,5 @@
 -- A row whose table is of an owned class is coded: each class is gone through once.
-use Rattle.std.proofs.Common.{◌≡◌, ℕ, ◌<◌, Bool, true, false, not, ◌&&◌, ◌||◌, T, eqb, ltb, ◌⊎◌, List, [], ◌∷◌, sym, refl, ap, ◌∙◌, subst, ⊎_elim, arith, lit<}
+use Rattle.std.proofs.Common.{◌≡◌, ℕ, ◌<◌, Bool, true, false, not, ◌&&◌, ◌||◌, T, eqb, ltb, List, [], ◌∷◌, sym, refl, ap, ◌∙◌, subst, ⊎_elim, arith, lit<}
 use Rattle.std.proofs.lemmas.Bool.{and_parts, and_from, or_cases, or_left, or_right, eqb-true, ltb-true, lt-ltb, ltb-false, eq-eqb, both_ways, not-true, cases_Bool}
 use Rattle.tables.specs.Bits.{bit, from_bits}
 use Rattle.tables.specs.declared.Variable.TheVariants.{V0, V1, V2, V3}

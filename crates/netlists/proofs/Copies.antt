@@ -1,6 +1,5 @@
 -- Rows placed in order into an empty network come out as they were, over new numbers.
-use Rattle.std.proofs.Common.{◌≡◌, ℕ, zero, suc, ◌+◌, ◌-◌, ◌<◌, ◌≤◌, Bool, true, false, cond, ◌&&◌, ltb, leb, ◌⊎◌, List, [], ◌∷◌, ◌++◌, map, length, get_or, Ok, Err, Result, sym, refl, ap, ◌∙◌, subst, ap₂, inl, inr, not-suc-le-zero, arith}
-use Rattle.std.specs.List.{range_with_len}
+use Rattle.std.proofs.Common.{◌≡◌, ℕ, suc, ◌+◌, ◌<◌, ◌≤◌, Bool, true, false, ◌&&◌, List, [], ◌∷◌, ◌++◌, length, get_or, Ok, Result, sym, refl, ap, ◌∙◌, subst, ap₂, inl, inr, not-suc-le-zero, arith}
 use Rattle.std.proofs.lemmas.List.FromFn.{length-map-range_with_len, get_or-map-range_with_len}
 use Rattle.std.proofs.lemmas.List.{get_or_append_left, get_or_push, length_push}
 use Rattle.std.proofs.lemmas.Bool.{le-leb, cases_lt, cases_Bool, and_from, true≢false}
@@ -8,21 +7,20 @@ use Rattle.tables.specs.declared.Variable.{Variable}
 use Rattle.tables.specs.declared.Variable.TheVariants.{V0, V1, V2, V3}
 use Rattle.tables.specs.Tables.{value}
 use Rattle.classes.specs.declared.Ownership.{Ownership}
-use Rattle.netlists.specs.declared.Node.{Node}
 use Rattle.netlists.specs.declared.Signal.{Signal}
 use Rattle.netlists.specs.declared.Row.{Row}
 use Rattle.netlists.specs.declared.Fanins.{Fanins}
 use Rattle.netlists.specs.declared.Form.{Form}
 use Rattle.netlists.specs.declared.Refusal.{Refusal}
-use Rattle.netlists.specs.Netlists.{Netlist, Assignment, signal_under, row_under, fanins_under}
+use Rattle.netlists.specs.Netlists.{Netlist, signal_under}
 use Rattle.netlists.specs.Normal.{node_at, normal}
-use Rattle.netlists.specs.Placing.{is_there, all_there, row_node, no_row, no_signal, signal_of, with_row, Placing, after_place}
-use Rattle.netlists.specs.Lawful.{Normal, Means, LawfulRow, Lawful}
+use Rattle.netlists.specs.Placing.{is_there, all_there, row_node, no_row, no_signal, signal_of, with_row, Placing}
+use Rattle.netlists.specs.Lawful.{Means, Lawful}
 use Rattle.netlists.specs.Copies.{Copy, signal_in, fanins_in, and_then, noted, skipped, copy_row, copy_rows, fresh, kept_before}
 use Rattle.netlists.proofs.Shapes.{normal_means}
 use Rattle.netlists.proofs.Unique.{unique_form}
 use Rattle.netlists.proofs.Ways.{taken, passed, row_added, place_owned}
-use Rattle.netlists.proofs.Renumber.{rank, rank_kept, rank_skipped, rank_mono, rank_lt, rank_onto, renumber, Open, of_input, of_row, of_used, order_kept, relabel, relabel_normal, relabel_one}
+use Rattle.netlists.proofs.Renumber.{rank_kept, rank_skipped, rank_lt, rank_onto, renumber, Open, of_input, of_row, of_used, order_kept, relabel, relabel_normal, relabel_one}
 
 -- a signal of a plain node
 abbrev pub plain : ℕ → Signal

@@ -1,10 +1,10 @@
 -- A struct may hold that it is lawful as a mere fact; the rules come out of it again.
-use Rattle.std.proofs.Common.{◌≡◌, ℕ, zero, suc, ◌+◌, ◌<◌, ◌≤◌, Bool, true, false, ◌⊎◌, length, get_or, sym, refl, inl, inr, arith}
+use Rattle.std.proofs.Common.{◌≡◌, ℕ, ◌<◌, ◌≤◌, Bool, true, false, refl, inl, inr, arith}
 use mathlib.Core.Logic.{∥∥₁_elim}
 use Rattle.std.proofs.lemmas.Bool.{cases_lt, cases_eq, true≢false, false≢true}
 use Rattle.classes.specs.declared.Ownership.{Ownership}
 use Rattle.netlists.specs.Netlists.{Netlist}
-use Rattle.netlists.specs.Lawful.{Follows, Normal, LawfulRow, Lawful}
+use Rattle.netlists.specs.Lawful.{Follows, Lawful}
 
 module _ {P : Type 0} (h : ∥ P ∥₁) where
   never : (P → ⊥) → ⊥

@@ -1,14 +1,14 @@
 -- The nodes of a normal form are nodes of the signals, or node 0.
-use Rattle.std.proofs.Common.{◌≡◌, ℕ, Bool, true, false, cond, eqb, ◌⊎◌, sym, refl, ap, ◌∙◌, subst, inl, inr}
+use Rattle.std.proofs.Common.{ℕ, Bool, true, false, cond, eqb, sym, subst, inl, inr}
 use Rattle.tables.specs.declared.Variable.{Variable}
 use Rattle.tables.specs.declared.Variable.TheVariants.{V0, V1, V2, V3}
-use Rattle.tables.specs.Tables.{depends_on, complement}
+use Rattle.tables.specs.Tables.{depends_on}
 use Rattle.tables.specs.Swaps.{swapped, joined}
-use Rattle.tables.proofs.Swaps.{every_variable_lem, differ, same_or_differ}
+use Rattle.tables.proofs.Swaps.{every_variable_lem, same_or_differ}
 use Rattle.netlists.specs.declared.Node.{Node}
 use Rattle.netlists.specs.declared.Row.{Row}
 use Rattle.netlists.specs.declared.Fanins.{Fanins}
-use Rattle.netlists.specs.Normal.{none, node_at, with_node, with_table, entered, grounded, unified, trimmed, precedes, first, second, ordered, all_grounded, all_unified, all_trimmed, all_ordered, reduced, at_zero, settled, normal}
+use Rattle.netlists.specs.Normal.{none, node_at, with_node, with_table, entered, grounded, unified, trimmed, precedes, first, second, ordered, all_grounded, all_unified, all_trimmed, all_ordered, reduced, settled, normal}
 use Rattle.netlists.proofs.Shapes.{node_at-with_table, node_at-with_node, node_at-with_node_other}
 
 abbrev Nodes : (ℕ → Type 0) → Row → Type 0

@@ -1,5 +1,5 @@
 -- What place, start and output mean for a netlist: values are kept, rows stay lawful, and the answer has the value of the table.
-use Rattle.std.proofs.Common.{◌≡◌, ℕ, zero, suc, ◌+◌, ◌<◌, ◌≤◌, Bool, true, false, cond, not, ◌&&◌, eqb, ltb, leb, ◌⊎◌, List, [], ◌∷◌, ◌++◌, length, get_or, Ok, Err, Result, sym, refl, ap, ◌∙◌, subst, ap₂, inl, inr, not-suc-le-zero, arith, length-append}
+use Rattle.std.proofs.Common.{◌≡◌, ℕ, zero, suc, ◌+◌, ◌<◌, ◌≤◌, Bool, true, false, ◌&&◌, eqb, ltb, leb, List, [], ◌∷◌, ◌++◌, length, get_or, Ok, Err, Result, sym, refl, ap, ◌∙◌, subst, ap₂, inl, inr, not-suc-le-zero, arith}
 use Rattle.std.proofs.lemmas.List.{get_or_append_left, get_or_push, length_push}
 use Rattle.std.proofs.lemmas.Bool.{eqb-true, eqb-false, ltb-true, ltb-false, leb-true, le-leb, and_parts, cases_lt}
 use Rattle.tables.specs.declared.Variable.{Variable}
@@ -15,14 +15,14 @@ use Rattle.netlists.specs.declared.Fanins.{Fanins}
 use Rattle.netlists.specs.declared.Form.{Form}
 use Rattle.netlists.specs.declared.Refusal.{Refusal}
 use Rattle.netlists.specs.declared.Refusal.TheVariants.{NoSuchNode, TooManyInputs, TooManyOutputs, NotOwned, NoPlace}
-use Rattle.netlists.specs.Netlists.{Netlist, Assignment, signal_under, row_under, fanins_under, held, values, node_values, signal_value}
+use Rattle.netlists.specs.Netlists.{Netlist, signal_under, row_under, fanins_under, held, values, node_values, signal_value}
 use Rattle.netlists.specs.Normal.{node_at, normal}
 use Rattle.netlists.specs.Placing.{is_there, all_there, row_node, no_row, no_signal, first_alike, Placing, with_row, signal_of, place_row, place_form, after_place, empty, after_start, with_output, after_output}
-use Rattle.netlists.specs.Lawful.{Normal, Means, LawfulRow, Lawful}
+use Rattle.netlists.specs.Lawful.{LawfulRow, Lawful}
 use Rattle.netlists.specs.Meaning.{Extends, Placed}
 use Rattle.netlists.proofs.Shapes.{normal_means}
 use Rattle.netlists.proofs.Values.{values_length, values_prefix, values-append, row_value, node_zero, lone_value}
-use Rattle.netlists.proofs.Alike.{alike_le, alike_found, alike_first}
+use Rattle.netlists.proofs.Alike.{alike_found, alike_first}
 use Rattle.netlists.proofs.Nodes.{normal_nodes}
 
 positive : (k : ℕ) → (k ≡ 0 → ⊥) → 0 < k

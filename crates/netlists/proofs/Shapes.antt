@@ -1,18 +1,16 @@
 -- The shape of the normal form: the nodes that the table depends on, each once, ascending, and a table false at index 0.
-use Rattle.std.proofs.Common.{◌≡◌, ℕ, ◌+◌, ◌<◌, ◌≤◌, Bool, true, false, cond, not, ◌&&◌, ◌||◌, T, eqb, ltb, ◌⊎◌, sym, refl, ap, ◌∙◌, subst, ap₂, inl, inr, arith}
-use Rattle.std.proofs.lemmas.Bool.{eqb-true, eqb-false, ltb-true, ltb-false, lt-ltb, le-ltb, and_parts, and_cases, or_cases, or_parts, cond_both, false≢true, cases_lt}
+use Rattle.std.proofs.Common.{◌≡◌, ℕ, ◌<◌, ◌≤◌, Bool, true, false, cond, not, ◌||◌, T, eqb, ltb, ◌⊎◌, sym, refl, ap, ◌∙◌, subst, inl, inr, arith}
+use Rattle.std.proofs.lemmas.Bool.{eqb-true, eqb-false, ltb-true, ltb-false, lt-ltb, and_parts, and_cases, or_cases, or_parts, cond_both, false≢true, cases_lt}
 use Rattle.tables.specs.declared.Variable.{Variable}
 use Rattle.tables.specs.declared.Variable.TheVariants.{V0, V1, V2, V3}
-use Rattle.tables.specs.Bits.{inverted}
-use Rattle.tables.specs.Settings.{Setting, get, put, setting}
-use Rattle.tables.specs.Tables.{value, complement, cofactor, depends_on, flipped}
+use Rattle.tables.specs.Settings.{setting}
+use Rattle.tables.specs.Tables.{complement, cofactor, depends_on}
 use Rattle.tables.specs.Swaps.{swapped, joined}
 use Rattle.tables.proofs.Laws.{value-complement}
 use Rattle.tables.proofs.Swaps.{every_variable_lem, differ, same_or_differ, swap_variable, swap_twice, Free, free_depends, free_same, cofactor_own, cofactor_keeps, joined_own, joined_keeps, joined_idle, depends_swapped, depends_complement, swapped_lt, joined_lt, cofactor_lt, flipped_lt, complement_lt}
 use Rattle.netlists.specs.declared.Node.{Node}
 use Rattle.netlists.specs.declared.Row.{Row}
 use Rattle.netlists.specs.declared.Fanins.{Fanins}
-use Rattle.netlists.specs.declared.Form.{Form}
 use Rattle.netlists.specs.Normal.{none, node_at, with_node, with_table, turned, entered, grounded, unified, trimmed, precedes, first, second, ordered, all_grounded, all_unified, all_trimmed, all_ordered, reduced, at_zero, settled, normal}
 use Rattle.netlists.specs.Lawful.{Follows, Normal, Means}
 use Rattle.netlists.proofs.Steps.{table_with_node, with_node_same, grounded_by, unified_by, ordered_by, ordered_idle, normal-value}

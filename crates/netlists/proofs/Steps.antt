@@ -1,20 +1,19 @@
 -- Each step to the normal form keeps the function of the nodes.
-use Rattle.std.proofs.Common.{◌≡◌, ℕ, ◌<◌, Bool, true, false, cond, not, T, eqb, sym, refl, ap, ◌∙◌, subst, ap₂}
+use Rattle.std.proofs.Common.{◌≡◌, ℕ, Bool, true, false, cond, not, T, eqb, sym, refl, ap, ◌∙◌, ap₂}
 use Rattle.std.proofs.lemmas.Bool.{eqb-true}
 use Rattle.tables.specs.declared.Variable.{Variable}
 use Rattle.tables.specs.declared.Variable.TheVariants.{V0, V1, V2, V3}
 use Rattle.tables.specs.Bits.{inverted}
 use Rattle.tables.specs.Settings.{Setting, get, put}
-use Rattle.tables.specs.Tables.{value, complement, cofactor, depends_on, flipped}
+use Rattle.tables.specs.Tables.{value, complement, cofactor, depends_on}
 use Rattle.tables.specs.Swaps.{exchanged, swapped, joined}
 use Rattle.tables.proofs.Laws.{value-cofactor, value-flipped, value-complement}
 use Rattle.tables.proofs.Swaps.{differ, put-get, value-swapped, value-joined, exchanged_twice, Free, depends_free, joined_own}
 use Rattle.netlists.specs.declared.Node.{Node}
 use Rattle.netlists.specs.declared.Row.{Row}
 use Rattle.netlists.specs.declared.Fanins.{Fanins}
-use Rattle.netlists.specs.declared.Form.{Form}
 use Rattle.netlists.specs.Netlists.{Assignment, setting_under, row_under, fanins_under}
-use Rattle.netlists.specs.Normal.{none, node_at, with_node, with_table, turned, entered, grounded, unified, trimmed, precedes, first, second, ordered, all_grounded, all_unified, all_trimmed, all_ordered, reduced, at_zero, settled, normal}
+use Rattle.netlists.specs.Normal.{none, node_at, with_node, with_table, turned, entered, grounded, unified, trimmed, precedes, ordered, all_grounded, all_unified, all_trimmed, all_ordered, reduced, at_zero, settled, normal}
 
 -- ---- rows with a node or a table replaced
 

@@ -1,22 +1,21 @@
 -- A netlist placed row by row into an empty network comes out as itself, and the sweep keeps every output's value.
-use Rattle.std.proofs.Common.{◌≡◌, ℕ, zero, suc, ◌+◌, ◌-◌, ◌<◌, ◌≤◌, Bool, true, false, cond, not, ◌&&◌, ◌||◌, eqb, ltb, leb, ◌⊎◌, List, [], ◌∷◌, ◌++◌, map, length, get_or, Ok, Err, Result, sym, refl, ap, ◌∙◌, subst, ap₂, inl, inr, le_of_suc-le-suc, not-suc-le-zero, arith}
+use Rattle.std.proofs.Common.{◌≡◌, ℕ, zero, suc, ◌+◌, ◌-◌, ◌<◌, ◌≤◌, Bool, true, false, ◌||◌, eqb, List, [], ◌∷◌, ◌++◌, map, length, get_or, Ok, Result, sym, refl, ap, ◌∙◌, subst, ap₂, inl, inr, le_of_suc-le-suc, not-suc-le-zero, arith}
 use Rattle.std.proofs.lemmas.List.{append-nil, append_assoc, length_push, length-map, get_or-map, ext_get_or}
-use Rattle.std.proofs.lemmas.Bool.{le-leb, leb-true, cases_lt, or_cases, or_left, or_right, eqb-true, eq-eqb, true≢false}
+use Rattle.std.proofs.lemmas.Bool.{le-leb, leb-true, cases_lt, or_cases, or_left, or_right, eqb-true, eq-eqb}
 use Rattle.tables.specs.declared.Variable.{Variable}
 use Rattle.tables.specs.declared.Variable.TheVariants.{V0, V1, V2, V3}
 use Rattle.tables.specs.Bits.{inverted}
 use Rattle.tables.specs.Tables.{value}
 use Rattle.tables.proofs.Swaps.{every_variable_lem}
 use Rattle.classes.specs.declared.Ownership.{Ownership}
-use Rattle.netlists.specs.declared.Node.{Node}
 use Rattle.netlists.specs.declared.Signal.{Signal}
 use Rattle.netlists.specs.declared.Row.{Row}
 use Rattle.netlists.specs.declared.Refusal.{Refusal}
-use Rattle.netlists.specs.Netlists.{Netlist, Assignment, row_under, held, values, node_values, signal_value}
+use Rattle.netlists.specs.Netlists.{Netlist, Assignment, row_under, held, node_values, signal_value}
 use Rattle.netlists.specs.Normal.{node_at}
-use Rattle.netlists.specs.Placing.{is_there, no_row, no_signal, signal_of, with_output, after_output}
-use Rattle.netlists.specs.Lawful.{LawfulRow, Lawful}
-use Rattle.netlists.specs.Copies.{Copy, signal_in, and_then, copy_row, copy_rows, through, copy_outputs, fresh, has, nodes_of, claim, claims, output_nodes, reached, kept_before, copied, swept, reached_rows, Swept}
+use Rattle.netlists.specs.Placing.{no_row, no_signal, signal_of, with_output, after_output}
+use Rattle.netlists.specs.Lawful.{Lawful}
+use Rattle.netlists.specs.Copies.{Copy, and_then, copy_rows, through, copy_outputs, fresh, has, nodes_of, claim, claims, output_nodes, reached, kept_before, copied, swept, reached_rows, Swept}
 use Rattle.netlists.proofs.Values.{values_prefix, row_value}
 use Rattle.netlists.proofs.Alike.{made as alike}
 use Rattle.netlists.proofs.Ways.{output_few}

@@ -1,20 +1,19 @@
 -- The normal form is unique: two forms that are the same function of the nodes are one.
-use Rattle.std.proofs.Common.{◌≡◌, ℕ, zero, suc, ◌+◌, ◌<◌, ◌≤◌, Bool, true, false, cond, not, eqb, ltb, ◌⊎◌, sym, refl, ap, ◌∙◌, subst, ap₂, inl, inr, arith}
+use Rattle.std.proofs.Common.{◌≡◌, ℕ, zero, suc, ◌<◌, ◌≤◌, Bool, true, false, cond, eqb, ◌⊎◌, sym, refl, ap, ◌∙◌, subst, ap₂, inl, inr, arith}
 use Rattle.std.proofs.lemmas.Bool.{eq-eqb, ne_eqb, lt-ltb, cases_lt, cases_eq, false≢true}
 use Rattle.tables.specs.declared.Variable.{Variable}
 use Rattle.tables.specs.declared.Variable.TheVariants.{V0, V1, V2, V3}
 use Rattle.tables.specs.Bits.{inverted}
-use Rattle.tables.specs.Settings.{Setting, get, put, setting}
-use Rattle.tables.specs.Tables.{value, depends_on}
+use Rattle.tables.specs.Settings.{Setting, get, put}
+use Rattle.tables.specs.Tables.{value}
 use Rattle.tables.proofs.Laws.{same_values}
 use Rattle.tables.proofs.Swaps.{every_variable_lem, put-get, Free, free_depends}
-use Rattle.netlists.specs.declared.Node.{Node}
 use Rattle.netlists.specs.declared.Row.{Row}
 use Rattle.netlists.specs.declared.Fanins.{Fanins}
 use Rattle.netlists.specs.declared.Form.{Form}
-use Rattle.netlists.specs.Netlists.{Assignment, setting_under, row_under, fanins_under}
+use Rattle.netlists.specs.Netlists.{Assignment, setting_under, row_under}
 use Rattle.netlists.specs.Normal.{node_at, with_table, normal}
-use Rattle.netlists.specs.Lawful.{Follows, Normal, Means, FormOf}
+use Rattle.netlists.specs.Lawful.{Normal, Means, FormOf}
 use Rattle.netlists.proofs.Values.{unused, row_same}
 use Rattle.netlists.proofs.Alike.{made}
 use Rattle.netlists.proofs.Shapes.{normal_means}

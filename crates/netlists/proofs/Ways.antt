@@ -1,5 +1,5 @@
 -- What a place call gives, by the way that it goes.
-use Rattle.std.proofs.Common.{◌≡◌, ℕ, ◌+◌, ◌<◌, ◌≤◌, Bool, true, false, eqb, ltb, leb, List, [], ◌∷◌, ◌++◌, length, get_or, Ok, Err, Result, sym, refl, ap, ◌∙◌, subst, arith}
+use Rattle.std.proofs.Common.{◌≡◌, ℕ, ◌<◌, ◌≤◌, Bool, true, false, eqb, ltb, leb, length, get_or, Ok, Err, sym, refl, ap, ◌∙◌, arith}
 use Rattle.std.proofs.lemmas.Bool.{eq-eqb, ne_eqb, lt-ltb, le-ltb, le-leb, lt-leb, false≢true, true≢false}
 use Rattle.classes.specs.declared.Ownership.{Ownership}
 use Rattle.classes.specs.Owned.{owns}
@@ -7,11 +7,10 @@ use Rattle.netlists.specs.declared.Signal.{Signal}
 use Rattle.netlists.specs.declared.Row.{Row}
 use Rattle.netlists.specs.declared.Fanins.{Fanins}
 use Rattle.netlists.specs.declared.Form.{Form}
-use Rattle.netlists.specs.declared.Refusal.{Refusal}
 use Rattle.netlists.specs.declared.Refusal.TheVariants.{NoSuchNode, NoSuchRow, NoSuchOutput, TooManyInputs, TooManyOutputs, NotOwned, NoPlace}
 use Rattle.netlists.specs.Netlists.{Netlist}
 use Rattle.netlists.specs.Normal.{normal}
-use Rattle.netlists.specs.Placing.{is_there, all_there, row_node, no_row, no_signal, first_alike, Placing, with_row, signal_of, place_row, place_form, after_place, empty, after_start, with_output, after_output, row_asked, output_asked}
+use Rattle.netlists.specs.Placing.{is_there, all_there, row_node, no_row, no_signal, first_alike, with_row, signal_of, place_row, place_form, after_place, empty, after_start, with_output, after_output, row_asked, output_asked}
 use Rattle.netlists.proofs.Alike.{alike_is, alike_none}
 
 -- a choice whose test is known

@@ -1,5 +1,5 @@
 -- The rules for rows, for normal forms, and for what a network holds at every time.
-use Rattle.std.specs.Prelude.{◌≡◌, ℕ, ◌+◌, ◌<◌, ◌≤◌, Bool, true, false, List, length, get_or, nat_lt, slice_index_or}
+use Rattle.std.specs.Prelude.{◌≡◌, ℕ, ◌+◌, ◌<◌, ◌≤◌, true, false, length, get_or, nat_lt, slice_index_or}
 use Rattle.tables.specs.declared.Variable.{Variable}
 use Rattle.tables.specs.Tables.{value, depends_on}
 use Rattle.tables.specs.Bits.{inverted}

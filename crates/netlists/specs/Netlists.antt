@@ -3,7 +3,6 @@ use Rattle.std.specs.Prelude.{ℕ, Bool, false, List, [], ◌∷◌, ◌++◌, s
 use Rattle.tables.specs.Bits.{inverted}
 use Rattle.tables.specs.Settings.{Setting}
 use Rattle.tables.specs.Tables.{value}
-use Rattle.netlists.specs.declared.Node.{Node}
 use Rattle.netlists.specs.declared.Signal.{Signal}
 use Rattle.netlists.specs.declared.Row.{Row}
 use Rattle.netlists.specs.declared.Fanins.{Fanins}

@@ -1,8 +1,8 @@
 -- The normal form of a table over four signals: a table over the nodes that it depends on, ascending, false at index 0.
-use Rattle.std.specs.Prelude.{ℕ, Bool, true, false, cond, not, ◌&&◌, ◌||◌, ◌==◌, nat_lt}
+use Rattle.std.specs.Prelude.{ℕ, Bool, false, cond, ◌&&◌, ◌||◌, ◌==◌, nat_lt}
 use Rattle.tables.specs.declared.Variable.{Variable}
 use Rattle.tables.specs.declared.Variable.TheVariants.{V0, V1, V2, V3}
-use Rattle.tables.specs.Settings.{Setting, setting}
+use Rattle.tables.specs.Settings.{setting}
 use Rattle.tables.specs.Tables.{value, complement, cofactor, depends_on, flipped}
 use Rattle.tables.specs.Swaps.{swapped, joined}
 use Rattle.netlists.specs.declared.Node.{Node}

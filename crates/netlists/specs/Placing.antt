@@ -1,5 +1,5 @@
 -- What the calls of a network do to its netlist, and when they are refused.
-use Rattle.std.specs.Prelude.{ℕ, zero, suc, ◌+◌, Bool, true, false, cond, ◌&&◌, List, [], ◌∷◌, ◌++◌, length, Ok, Err, Result, ◌==◌, nat_le, nat_lt, slice_index_or}
+use Rattle.std.specs.Prelude.{ℕ, suc, ◌+◌, Bool, true, false, ◌&&◌, List, [], ◌∷◌, ◌++◌, length, Ok, Err, Result, ◌==◌, nat_le, nat_lt, slice_index_or}
 use Rattle.classes.specs.declared.Ownership.{Ownership}
 use Rattle.classes.specs.Owned.{owns}
 use Rattle.netlists.specs.declared.Node.{Node}

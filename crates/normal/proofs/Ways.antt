@@ -1,16 +1,15 @@
 -- Each step of the normal form, by the way that its test goes.
-use Rattle.std.proofs.Common.{◌≡◌, ℕ, Bool, true, false, cond, eqb, sym, refl, ap, ◌∙◌, subst, div-one}
+use Rattle.std.proofs.Common.{◌≡◌, ℕ, Bool, true, false, cond, sym, ap, ◌∙◌, subst, div-one}
 use lib.Bits.{bit_and}
 use Rattle.std.proofs.lemmas.Bool.{eq-eqb, ne_eqb}
 use Rattle.tables.specs.declared.Variable.{Variable}
-use Rattle.tables.specs.Settings.{setting}
 use Rattle.tables.specs.Tables.{value, complement, cofactor, depends_on}
 use Rattle.tables.specs.Swaps.{swapped, joined}
 use Rattle.tables.proofs.Laws.{leaf_true, leaf_false}
 use Rattle.netlists.specs.declared.Node.{Node}
 use Rattle.netlists.specs.declared.Row.{Row}
 use Rattle.netlists.specs.declared.Form.{Form}
-use Rattle.netlists.specs.Normal.{none, node_at, with_node, with_table, grounded, unified, trimmed, precedes, ordered, at_zero, settled}
+use Rattle.netlists.specs.Normal.{none, node_at, with_node, with_table, grounded, unified, trimmed, precedes, ordered, settled}
 use Rattle.netlists.proofs.Steps.{with_node_same, grounded_by, unified_by, trimmed_by, ordered_by, ordered_idle}
 
 pub ground_hit : (r : Row) (v : Variable) → (node_at r v).number ≡ 0 → with_table r (cofactor r.table v false) ≡ grounded r v

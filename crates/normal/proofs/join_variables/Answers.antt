@@ -1,4 +1,3 @@
-use Rattle.std.proofs.Common.{◌∙◌}
 use Rattle.tables.proofs.Swaps.{joined_code}
 use Rattle.normal.proofs.join_variables.Goals as goal
 

@@ -1,5 +1,4 @@
 use Rattle.std.proofs.Common.{◌≡◌, ◌<◌, sym, subst, arith}
-use Rattle.netlists.specs.declared.Form.{Form}
 use Rattle.netlists.specs.Normal.{reduced, normal}
 use Rattle.netlists.specs.Lawful.{FormOf}
 use Rattle.netlists.proofs.Unique.{normal_form_of}
