@@ -19,9 +19,9 @@ returns-in_err-copy_rows g c =
     let law = g.met.N.Network.lawful c.args.from.now in
     let i = c.input_count-inputs.result in
     let few : i ≤ 32 = omega (arith, law.few_inputs, c.input_count-inputs.ensures) in
-    let p = err_from_is_err_and c.from-residual-in_err-copy_rows.result c.from-residual-in_err-copy_rows.ensures.1 in
+    let p = err_from_is_err_and c.from_residual-in_err-copy_rows.result c.from_residual-in_err-copy_rows.ensures.1 in
     record {
-      copy = err_due _ c.from-residual-in_err-copy_rows.result _ c.in_err-copy_rows.field-0.0 (p.1 ∙ ap Err p.2)
+      copy = err_due _ c.from_residual-in_err-copy_rows.result _ c.in_err-copy_rows.field-0.0 (p.1 ∙ ap Err p.2)
           (kept_err _ _ _ _ n _ i c.first_signals.new.signals few c.input_count-inputs.ensures c.in_ok-start.ensures.kept c.in_ok-start.ensures.answer
           c.first_signals.ensures c.in_err-copy_rows.field-0.0 c.in_err-copy_rows.ensures.copy);
       same = c.in_err-copy_rows.ensures.same ∙ c.in_ok-start.ensures.kept;

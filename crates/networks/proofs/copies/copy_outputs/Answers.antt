@@ -18,9 +18,9 @@ returns-in_err-output g c =
     let k = c.loop-k.k in
     let lt : k < length n.outputs = omega arith in
     let s = output_read n k c.in_ok-signal.signal lt c.in_ok-signal.ensures in
-    let p = err_from_is_err_and c.from-residual-in_err-output.result c.from-residual-in_err-output.ensures.1 in
+    let p = err_from_is_err_and c.from_residual-in_err-output.result c.from_residual-in_err-output.ensures.1 in
     record {
-      copy = err_due _ c.from-residual-in_err-output.result _ c.in_err-output.field-0.0 (p.1 ∙ ap Err p.2)
+      copy = err_due _ c.from_residual-in_err-output.result _ c.in_err-output.field-0.0 (p.1 ∙ ap Err p.2)
           (out_err (take c.args.made c.args.signals.now) n.outputs _ k _ c.in_ok-signal.signal c.signal_through.result c.in_err-output.field-0.0
           lt s c.signal_through.ensures c.loop-k.invariant.1 c.in_err-output.ensures.answer.0);
       same = c.in_err-output.ensures.kept ∙ c.loop-k.invariant.0;

@@ -20,9 +20,9 @@ returns-in_err-copy_next g c =
     let lt : k < length n.rows = omega arith in
     let r = row_read n k c.in_ok-row.row lt c.in_ok-row.ensures in
     let next = c.in_err-copy_next.ensures.copy (marked c.args.marks.now) refl in
-    let p = err_from_is_err_and c.from-residual-in_err-copy_next.result c.from-residual-in_err-copy_next.ensures.1 in
+    let p = err_from_is_err_and c.from_residual-in_err-copy_next.result c.from_residual-in_err-copy_next.ensures.1 in
     record {
-      copy = err_due _ c.from-residual-in_err-copy_next.result _ c.in_err-copy_next.field-0.0 (p.1 ∙ ap Err p.2)
+      copy = err_due _ c.from_residual-in_err-copy_next.result _ c.in_err-copy_next.field-0.0 (p.1 ∙ ap Err p.2)
           (loop_err _ _ _ _ _ k _ n.rows _ _ c.in_ok-row.row _ c.in_err-copy_next.field-0.0 c.loop-k.invariant.0 c.input_count-inputs.ensures lt r c.loop-k.invariant.1 next);
       same = c.in_err-copy_next.ensures.same ∙ c.loop-k.invariant.0;
     }

@@ -41,4 +41,4 @@ loop-k-preserved g c =
     let n = g.N.Network.netlist c.args.net.now in
     let k = c.loop-k.k - 1 in
     let lt : k < length n.outputs = omega arith in
-    never (get_or n.outputs k no_signal) c.in-default.field-0 c.output_signal.result (c.output_signal.ensures ∙ output_there n k lt) c.in-default.is
+    never (get_or n.outputs k no_signal) c.in_default.field-0 c.output_signal.result (c.output_signal.ensures ∙ output_there n k lt) c.in_default.is

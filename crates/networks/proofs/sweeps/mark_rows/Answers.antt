@@ -44,7 +44,7 @@ loop-k-preserved g c =
     let n = g.N.Network.netlist c.args.net.now in
     let k = c.loop-k.k - 1 in
     let lt : k < length n.rows = omega arith in
-    never (get_or n.rows k no_row) c.in-default.field-0 c.row.result (c.row.ensures ∙ row_there n k lt) c.in-default.is
+    never (get_or n.rows k no_row) c.in_default.field-0 c.row.result (c.row.ensures ∙ row_there n k lt) c.in_default.is
 
 pub returns : goal.returns
 returns g c =

@@ -11,8 +11,8 @@ plan c =
     c.write_table-result.result c.turn.result c.output.result (omega arith) c.classify-class.ensures.class c.new-lines.ensures c.inputs_of.ensures
     c.write_table-result.ensures.few c.write_table-result.ensures.held c.output.ensures c.turn.ensures
 
-pub invariant-of-result : goal.invariant-of-result
-invariant-of-result c = (let r = room c.new-lines.result c.classify-class.result.representative c.new-lines.ensures in omega (arith, c.write_table-result.ensures.few), tt)
+pub invariant_of-result : goal.invariant_of-result
+invariant_of-result c = (let r = room c.new-lines.result c.classify-class.result.representative c.new-lines.ensures in omega (arith, c.write_table-result.ensures.few), tt)
 
 pub returns : goal.returns
 returns c = let p = plan c in record { lines = p.lines; result = p.result; value = p.value; few = p.few; most = p.most; owned = p.owned }

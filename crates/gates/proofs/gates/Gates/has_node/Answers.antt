@@ -2,7 +2,7 @@ use Rattle.std.proofs.Common.{arith}
 use Rattle.gates.proofs.Laws.{gates_lawful}
 use Rattle.gates.proofs.gates.Gates.has_node.Goals as goal
 
-pub overflow-add-result : goal.overflow-add-result
-overflow-add-result c =
+pub overflow_add-result : goal.overflow_add-result
+overflow_add-result c =
     let l = gates_lawful c.args.self.now in
     omega arith

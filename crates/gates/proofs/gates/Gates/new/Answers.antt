@@ -2,5 +2,5 @@ use Rattle.std.proofs.Common.{◌≡◌, List, [], sym, subst, arith}
 use Rattle.gates.proofs.Calls.{new_lawful}
 use Rattle.gates.proofs.gates.Gates.new.Goals as goal
 
-pub invariant-of-result : goal.invariant-of-result
-invariant-of-result c = (∣ new_lawful c.new.result c.none.result 0 (omega arith) c.new.ensures.rows c.none.ensures ∣₁, tt)
+pub invariant_of-result : goal.invariant_of-result
+invariant_of-result c = (∣ new_lawful c.new.result c.none.result 0 (omega arith) c.new.ensures.rows c.none.ensures ∣₁, tt)

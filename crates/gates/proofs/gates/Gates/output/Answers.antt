@@ -13,8 +13,8 @@ returns-then-not-has_node c =
     let e : is_there (netlist_of c.args.self.now) c.args.signal.node ≡ false = cc in
     record { answer = (output_missing (netlist_of c.args.self.now) c.args.signal e, refl); kept = same_kept c.args.self.now.store }
 
-pub invariant-of-self : goal.invariant-of-self
-invariant-of-self c =
+pub invariant_of-self : goal.invariant_of-self
+invariant_of-self c =
     let h = c.if-not-has_node.ensures in
     let e : is_there (netlist_of c.args.self.now) c.args.signal.node ≡ true = cc in (
       ∣ output_still c.args.self.now.store c.args.self.now.inputs c.args.self.now.outputs c.push.new.self c.args.signal e

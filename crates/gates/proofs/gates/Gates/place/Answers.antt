@@ -42,8 +42,8 @@ keep_row-requires c =
     can_keep c.args.self.now.store.coding (netlist_of c.args.self.now) c.args.table c.args.fanins c.normal_form-form.result l.few_inputs (omega arith) (sym h)
     c.normal_form-form.ensures.is c.normal_form-form.ensures.means (λ z. c.if-number-eq0.false (c.number.ensures ∙ z)) (sym w)
 
-pub invariant-of-self : goal.invariant-of-self
-invariant-of-self c =
+pub invariant_of-self : goal.invariant_of-self
+invariant_of-self c =
     let h = c.if-not-has_all.ensures in
     let w = c.if-not-owns_table.ensures in (
       ∣ place_still c.args.self.now.store c.keep_row.new.store c.args.self.now.inputs c.args.self.now.outputs c.args.table c.args.fanins c.normal_form-form.result c.normal_form-form.ensures.is (sym h) (λ z. c.if-number-eq0.false (c.number.ensures ∙ z)) (sym w)
@@ -51,19 +51,19 @@ invariant-of-self c =
       tt,
     )
 
-pub overflow-add-self : goal.overflow-add-self
-overflow-add-self c = let l = gates_lawful c.args.self.now in omega arith
+pub overflow_add-self : goal.overflow_add-self
+overflow_add-self c = let l = gates_lawful c.args.self.now in omega arith
 
-pub overflow-add-self-in-Ok : goal.overflow-add-self-in-Ok
-overflow-add-self-in-Ok c =
+pub overflow_add-self-in-Ok : goal.overflow_add-self-in-Ok
+overflow_add-self-in-Ok c =
     let l = gates_lawful c.args.self.now in
     let n = c.in-Ok.ensures.inside in
     let m = rows_most c.keep_row.new.store in
     let p = places_few c.keep_row.new.store in
     omega arith
 
-pub overflow-cast-self : goal.overflow-cast-self
-overflow-cast-self c =
+pub overflow_cast-self : goal.overflow_cast-self
+overflow_cast-self c =
     let l = gates_lawful c.args.self.now in
     let n = c.in-Ok.ensures.inside in
     let m = rows_most c.keep_row.new.store in

@@ -3,9 +3,9 @@ use Rattle.codings.specs.Codings.{coder}
 use Rattle.stores.specs.Blocks.{rows_in, places_in}
 use Rattle.stores.proofs.store.Store.new.Goals as goal
 
-pub invariant-of-result : goal.invariant-of-result
+pub invariant_of-result : goal.invariant_of-result
 unfolding places_in
-invariant-of-result c =
+invariant_of-result c =
     let e : c.min-places.result ≡ places_in (coder c.args.coding).width (vec_len c.args.words) = cc in
     (e, (omega arith, ((λ k h. absurd (not-suc-le-zero h)), tt)))
 

@@ -13,8 +13,8 @@ use Rattle.stores.proofs.store.Store.push.Goals as goal
 pub returns-then-n-self : goal.returns-then-n-self
 returns-then-n-self c = let n = rows_count c.args.self.now in let w = c.args.self.now.within in (omega arith, refl)
 
-pub overflow-mul-width : goal.overflow-mul-width
-overflow-mul-width c =
+pub overflow_mul-width : goal.overflow_mul-width
+overflow_mul-width c =
     let f = row_fits c.args.self.now c.width-width.result c.args.self.now.count c.width-width.ensures c.if-n-self.false in
     omega arith
 
@@ -28,8 +28,8 @@ written : (s : Store) (r : Row) (ws : List ℕ) (width : ℕ) (w : Coded) → wi
     → ws ≡ with_block width (words_of s) (width * s.count) w → Written s r ws
 written s r ws width w ew eb e = cc
 
-pub invariant-of-self : goal.invariant-of-self
-invariant-of-self c =
+pub invariant_of-self : goal.invariant_of-self
+invariant_of-self c =
     let l = c.write_block.ensures.len in
     let r = c.args.self.now.room in
     let f = row_fits c.args.self.now (width_of c.args.self.now) c.args.self.now.count refl c.if-n-self.false in

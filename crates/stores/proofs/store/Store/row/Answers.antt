@@ -9,8 +9,8 @@ use Rattle.stores.proofs.store.Store.row.Goals as goal
 pub returns-then-i-self : goal.returns-then-i-self
 returns-then-i-self c = sym (rows_past (coder c.args.self.now.coding) (words_of c.args.self.now) c.args.self.now.count c.args.i c.if-i-self.true)
 
-pub overflow-mul-width : goal.overflow-mul-width
-overflow-mul-width c =
+pub overflow_mul-width : goal.overflow_mul-width
+overflow_mul-width c =
     let w = c.args.self.now.within in
     let l : c.args.i < c.args.self.now.places = omega arith in
     let f = row_fits c.args.self.now c.width-width.result c.args.i c.width-width.ensures l in
