@@ -1,5 +1,5 @@
 -- What lines answer: earlier answers stay, and the last line reads them.
-use Rattle.std.proofs.Common.{◌≡◌, ℕ, zero, suc, ◌+◌, ◌<◌, ◌≤◌, Bool, true, false, cond, not, ◌&&◌, ◌||◌, List, [], ◌∷◌, ◌++◌, length, get_or, sym, refl, ap, ◌∙◌, subst, ap₂, append_assoc, not-suc-le-zero, add-zero, arith, length-append}
+use Rattle.std.proofs.Common.{◌≡◌, ℕ, ◌+◌, ◌<◌, ◌≤◌, Bool, true, false, ◌&&◌, ◌||◌, List, [], ◌∷◌, ◌++◌, length, get_or, sym, refl, ap, ◌∙◌, subst, ap₂, append_assoc, not-suc-le-zero, add-zero, arith, length-append}
 use Rattle.std.proofs.lemmas.List.{get_or_append_left, get_or_push}
 use Rattle.tables.specs.declared.Variable.{Variable}
 use Rattle.tables.specs.declared.Variable.TheVariants.{V0, V1, V2, V3}
@@ -12,8 +12,8 @@ use Rattle.plans.specs.declared.Source.TheVariants as source
 use Rattle.plans.specs.declared.Literal.{Literal}
 use Rattle.plans.specs.declared.Line.{Line}
 use Rattle.plans.specs.declared.Inputs.{Inputs}
-use Rattle.plans.specs.Lines.{nothing, nth, turned, stands, source_value, literal_value, line_value, answers, standing}
-use Rattle.plans.specs.Plans.{two_of, and_of, or_of, xor_of, one_more, either}
+use Rattle.plans.specs.Lines.{nth, turned, stands, source_value, literal_value, line_value, answers, standing}
+use Rattle.plans.specs.Plans.{and_of, or_of, xor_of, either}
 
 -- a source that reads only the first n lines
 abbrev pub Reads : ℕ → Source → Type 0

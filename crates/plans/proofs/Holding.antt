@@ -1,11 +1,11 @@
 -- The steps of the memory of a plan.
-use Rattle.std.proofs.Common.{◌≡◌, ℕ, ◌+◌, ◌<◌, ◌≤◌, List, [], ◌∷◌, ◌++◌, length, take, set, sym, refl, ap, ◌∙◌, ap₂, append_assoc, add-one, arith, length-append, take-suc-set}
+use Rattle.std.proofs.Common.{◌≡◌, ℕ, ◌+◌, ◌<◌, List, [], ◌∷◌, ◌++◌, length, take, set, ap, ◌∙◌, ap₂, append_assoc, add-one, arith, length-append, take-suc-set}
 use Rattle.plans.specs.declared.Literal.{Literal}
 use Rattle.plans.specs.declared.Line.{Line}
 use Rattle.plans.specs.declared.lines.Lines.{Lines}
 use Rattle.plans.specs.Lines.{nth as answer}
-use Rattle.plans.specs.Plans.{Written, or_of, one_more, either}
-use Rattle.plans.specs.Held.{listed, Stored, Held}
+use Rattle.plans.specs.Plans.{or_of, one_more, either}
+use Rattle.plans.specs.Held.{Stored, Held}
 
 pub push_held : (m : Lines) (l : Line) (base : List Line) (n : ℕ) (ls : List Line) → m.count < length m.items → Stored m base n ls
     → Held (record { items = set m.items m.count l; count = m.count + 1 }) (answer m.count) base n (one_more n ls l)

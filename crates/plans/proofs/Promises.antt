@@ -1,9 +1,8 @@
 -- What the plan of a table promises.
-use Rattle.std.proofs.Common.{◌≡◌, ℕ, ◌+◌, ◌<◌, ◌≤◌, Bool, List, [], ◌++◌, length, sym, refl, ap, ◌∙◌, subst, ap₂, arith}
-use Rattle.tables.specs.declared.Variable.{Variable}
+use Rattle.std.proofs.Common.{◌≡◌, ℕ, ◌+◌, ◌<◌, ◌≤◌, Bool, List, [], ◌++◌, length, sym, ap, ◌∙◌, subst, ap₂, arith}
 use Rattle.tables.specs.declared.Variable.TheVariants.{V0, V1, V2, V3}
 use Rattle.tables.specs.Bits.{inverted}
-use Rattle.tables.specs.Settings.{Setting, get}
+use Rattle.tables.specs.Settings.{Setting}
 use Rattle.tables.specs.Tables.{value, support_size}
 use Rattle.tables.proofs.Support.{support_le}
 use Rattle.classes.specs.declared.Ownership.{Ownership}
@@ -17,7 +16,7 @@ use Rattle.plans.specs.declared.Line.{Line}
 use Rattle.plans.specs.declared.Inputs.{Inputs}
 use Rattle.plans.specs.declared.lines.Lines.{Lines}
 use Rattle.plans.specs.Held.{listed, Stored, Held}
-use Rattle.plans.specs.Lines.{turned, literal_value, answers, standing}
+use Rattle.plans.specs.Lines.{turned, answers}
 use Rattle.plans.specs.Plans.{Written, inputs, write, plan_of, plan_value, EachOwned, bound}
 use Rattle.plans.proofs.Answering.{NoLine, turned-value}
 use Rattle.plans.proofs.Writing.{bound_mono}

@@ -1,13 +1,13 @@
 -- A plan's value is its table's value, its lines are owned, and they are few.
-use Rattle.std.proofs.Common.{◌≡◌, ℕ, zero, suc, ◌+◌, ◌*◌, ◌<◌, ◌≤◌, Bool, true, false, cond, not, ◌&&◌, ◌||◌, List, [], ◌∷◌, ◌++◌, length, sym, refl, ap, ◌∙◌, subst, ap₂, le_of_suc-le-suc, not-suc-le-zero, add-zero, arith, lit<, length-append}
+use Rattle.std.proofs.Common.{◌≡◌, ℕ, zero, suc, ◌+◌, ◌<◌, Bool, true, false, cond, not, ◌&&◌, ◌||◌, List, [], ◌++◌, length, sym, refl, ap, ◌∙◌, subst, ap₂, not-suc-le-zero, arith, length-append}
 use Rattle.std.proofs.lemmas.Bool.{cond_both}
 use Rattle.tables.specs.declared.Variable.{Variable}
 use Rattle.tables.specs.declared.Variable.TheVariants.{V0, V1, V2, V3}
 use Rattle.tables.specs.Bits.{inverted}
 use Rattle.tables.specs.Settings.{Setting, get, put}
-use Rattle.tables.specs.Tables.{value, cofactor, complement, depends_on, support_size}
+use Rattle.tables.specs.Tables.{value, cofactor, depends_on, support_size}
 use Rattle.tables.proofs.Laws.{value-cofactor, value-complement, value_true, value_false, cofactor_lt}
-use Rattle.tables.proofs.Support.{Ignores, ignores, support_falls}
+use Rattle.tables.proofs.Support.{ignores, support_falls}
 use Rattle.classes.specs.declared.Ownership.{Ownership}
 use Rattle.rules.specs.declared.Rule.{Rule}
 use Rattle.rules.specs.declared.Rule.TheVariants.{Constant, Single, Whole, AndLow, AndHigh, OrLow, OrHigh, Exclusive, Split}
@@ -17,9 +17,9 @@ use Rattle.rules.proofs.Fitting.{rule_fits}
 use Rattle.plans.specs.declared.Literal.{Literal}
 use Rattle.plans.specs.declared.Line.{Line}
 use Rattle.plans.specs.declared.Inputs.{Inputs}
-use Rattle.plans.specs.Lines.{nothing, nth, turned, stands, literal_value, line_value, answers, standing}
-use Rattle.plans.specs.Plans.{Written, and_of, or_of, xor_of, used, whole_of, one_more, either, exclusive, split, by_rule, write}
-use Rattle.plans.proofs.Answering.{Scoped, NoLine, scoped_more, answers-append, answers-length, literal_keep, literal_any, stands-value, turned-value, and-value, or-value, xor_value, last_value, either-value}
+use Rattle.plans.specs.Lines.{nothing, turned, stands, literal_value, line_value, answers, standing}
+use Rattle.plans.specs.Plans.{Written, and_of, or_of, xor_of, used, whole_of, one_more, by_rule, write}
+use Rattle.plans.proofs.Answering.{Scoped, NoLine, scoped_more, answers-append, answers-length, literal_keep, stands-value, turned-value, and-value, or-value, xor_value, last_value, either-value}
 
 -- ---- a table by its cofactors
 

@@ -1,5 +1,5 @@
 -- What the memory of a plan holds.
-use Rattle.std.specs.Prelude.{◌≡◌, ℕ, ◌+◌, ◌≤◌, List, ◌++◌, length, take}
+use Rattle.std.specs.Prelude.{◌≡◌, ℕ, ◌+◌, List, ◌++◌, length, take}
 use Rattle.plans.specs.declared.Literal.{Literal}
 use Rattle.plans.specs.declared.Line.{Line}
 use Rattle.plans.specs.declared.lines.Lines.{Lines}

@@ -104,7 +104,7 @@ fn inputs_of(t: Transform) -> Inputs
 pub fn plan_table(own: Ownership, f: Table) -> Plan
     ensures lines { listed result.lines ≡ (plan_of own f).lines }
     ensures result { result.result ≡ (plan_of own f).result }
-    ensures* value { λ r. ⌜ ((y : Setting) → plan_value y (record { lines = listed r.lines; result = r.result }) ≡ value f y) ⌝ }
+    ensures value { (y : Setting) → plan_value y (record { lines = listed result.lines; result = result.result }) ≡ value f y }
     ensures few { length (listed result.lines) ≤ bound (support_size f) }
     ensures most { length (listed result.lines) ≤ 21 }
     ensures owned { EachOwned own (listed result.lines) }

@@ -1,5 +1,5 @@
 -- The rule that is chosen fits.
-use Rattle.std.proofs.Common.{◌≡◌, ℕ, zero, suc, ◌+◌, ◌<◌, ◌≤◌, Bool, true, false, cond, not, ◌&&◌, ◌||◌, eqb, ◌⊎◌, Some, None, Option, sym, refl, ap, ◌∙◌, subst, inl, inr, arith}
+use Rattle.std.proofs.Common.{◌≡◌, ℕ, ◌<◌, ◌≤◌, Bool, true, false, cond, not, ◌&&◌, ◌||◌, eqb, Some, None, Option, sym, refl, ap, ◌∙◌, inl, inr, arith}
 use Rattle.std.proofs.lemmas.Bool.{eqb-true, ne_eqb, cond_both, cases_lt}
 use Rattle.tables.specs.declared.Variable.{Variable}
 use Rattle.tables.specs.declared.Variable.TheVariants.{V0, V1, V2, V3}
@@ -7,14 +7,14 @@ use Rattle.tables.specs.Bits.{bit, from_bits, inverted}
 use Rattle.tables.specs.Settings.{Setting, get, setting}
 use Rattle.tables.specs.Tables.{value, table_of, cofactor, complement, depends_on, lowest, support_size}
 use Rattle.tables.proofs.Laws.{every_setting, value-complement}
-use Rattle.tables.proofs.Support.{OneVariable, one_variable}
+use Rattle.tables.proofs.Support.{one_variable}
 use Rattle.classes.specs.declared.Ownership.{Ownership}
 use Rattle.classes.specs.Images.{representative}
 use Rattle.classes.specs.Owned.{owns}
 use Rattle.rules.specs.declared.Rule.{Rule}
-use Rattle.rules.specs.declared.Rule.TheVariants.{Constant, Single, Whole, AndLow, AndHigh, OrLow, OrHigh, Exclusive, Split}
-use Rattle.rules.specs.Rules.{or_else, or_rule, trivial_rule, whole_rule, by_cofactors, simple_rule, first_simple, exclusive_in, first_exclusive, exclusive_rule, split_rule, rule_of}
-use Rattle.rules.specs.Fits.{Divides, Alone, Fits}
+use Rattle.rules.specs.declared.Rule.TheVariants.{Exclusive}
+use Rattle.rules.specs.Rules.{or_else, or_rule, trivial_rule, whole_rule, simple_rule, first_simple, exclusive_in, first_exclusive, exclusive_rule, split_rule, rule_of}
+use Rattle.rules.specs.Fits.{Fits}
 
 -- an answer fits, if there is one
 abbrev FitsOption : Ownership → ℕ → Option Rule → Type 0

@@ -1,5 +1,5 @@
 -- What a rule says of the table that it writes.
-use Rattle.std.specs.Prelude.{◌≡◌, ℕ, ◌≤◌, Bool, true, false}
+use Rattle.std.specs.Prelude.{◌≡◌, ℕ, ◌≤◌, true, false}
 use Rattle.tables.specs.declared.Variable.{Variable}
 use Rattle.tables.specs.Bits.{inverted}
 use Rattle.tables.specs.Settings.{Setting, get}

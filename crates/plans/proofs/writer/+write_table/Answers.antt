@@ -1,13 +1,13 @@
 -- Each rule by its lemma: the parts are smaller and there is room for them, and what is held is what the rule writes.
-use Rattle.std.proofs.Common.{◌≡◌, ℕ, ◌+◌, ◌<◌, ◌≤◌, true, false, List, [], sym, refl, ap, ◌∙◌, subst, ap₂, arith, rules}
+use Rattle.std.proofs.Common.{◌≡◌, ◌<◌, true, false, [], refl, ap, ◌∙◌, subst, arith, rules}
 use Rattle.tables.specs.Tables.{support_size}
 use Rattle.rules.specs.declared.Rule.TheVariants.{Constant, Single, Whole, AndLow, AndHigh, OrLow, OrHigh, Exclusive, Split}
 use Rattle.plans.specs.declared.Literal.{Literal}
 use Rattle.plans.specs.declared.Line.{Line}
 use Rattle.plans.specs.Lines.{nothing, turned, stands}
-use Rattle.plans.specs.Plans.{Written, two_of, and_of, or_of, whole_of, one_more, either, exclusive, split, bound}
+use Rattle.plans.specs.Plans.{and_of, or_of, whole_of, one_more, either, exclusive, split}
 use Rattle.plans.specs.Held.{Held}
-use Rattle.plans.proofs.Writing.{Part, part_of, bound_three, start, no_part, one_part, two_parts}
+use Rattle.plans.proofs.Writing.{part_of, bound_three, start, no_part, one_part, two_parts}
 use Rattle.plans.proofs.writer.+write_table.Goals as goal
 
 pub push-requires : goal.push-requires
@@ -150,7 +150,7 @@ returns-in-AndLow t c =
     let f = c.in-AndLow.ensures.fits in
     let p = part_of c.args.h c.low_cofactor.result c.in-AndLow.v false (f.0) c.low_cofactor.ensures in
     let push = c.push-in-AndLow in
-    let line : c.two_of_lem.result ≡ and_of (turned true (stands c.args.inputs c.in-AndLow.v)) c.write_table-part.result = c.two_of_lem.ensures ∙ ap (λ (l : Literal). and_of l c.write_table-part.result) (c.turn-in-AndLow.ensures ∙ ap (turned true) c.of-in-AndLow.ensures) in
+    let line : c.two_of.result ≡ and_of (turned true (stands c.args.inputs c.in-AndLow.v)) c.write_table-part.result = c.two_of.ensures ∙ ap (λ (l : Literal). and_of l c.write_table-part.result) (c.turn-in-AndLow.ensures ∙ ap (turned true) c.of-in-AndLow.ensures) in
     record {
       few = let room = p.room in let less = c.write_table-part.ensures.few in omega arith;
       held =

@@ -5,14 +5,14 @@ use Rattle.plans.proofs.writer.plan_table.Goals as goal
 pub write_table-result-requires : goal.write_table-result-requires
 write_table-result-requires c = room c.new-lines.result c.classify-class.result.representative c.new-lines.ensures
 
-plan : (c : goal.After-result·1) → Promised c.args.own c.args.f c.write_table-result.new.lines c.turn.result
+plan : (c : goal.After-result-1) → Promised c.args.own c.args.f c.write_table-result.new.lines c.turn.result
 plan c =
     promised c.args.own c.args.f c.classify-class.result c.inputs_of.result c.new-lines.result c.write_table-result.new.lines
     c.write_table-result.result c.turn.result c.output.result (omega arith) c.classify-class.ensures.class c.new-lines.ensures c.inputs_of.ensures
     c.write_table-result.ensures.few c.write_table-result.ensures.held c.output.ensures c.turn.ensures
 
 pub invariant_of-result : goal.invariant_of-result
-invariant_of-result c = (let r = room c.new-lines.result c.classify-class.result.representative c.new-lines.ensures in omega (arith, c.write_table-result.ensures.few), tt)
+invariant_of-result c = record { few = let r = room c.new-lines.result c.classify-class.result.representative c.new-lines.ensures in omega (arith, c.write_table-result.ensures.few) }
 
 pub returns : goal.returns
 returns c = let p = plan c in record { lines = p.lines; result = p.result; value = p.value; few = p.few; most = p.most; owned = p.owned }

@@ -1,9 +1,8 @@
-use Rattle.std.proofs.Common.{◌≡◌, Bool, true, cond, sym, ap, ◌∙◌, subst, ap₂, arith}
+use Rattle.std.proofs.Common.{true, sym, ap, ◌∙◌, subst, ap₂, arith}
 use Rattle.std.proofs.lemmas.Bool.{cond-true, cond-false}
 use Rattle.plans.specs.declared.Literal.{Literal}
-use Rattle.plans.specs.declared.Line.{Line}
 use Rattle.plans.specs.Lines.{turned}
-use Rattle.plans.specs.Plans.{Written, one_more, either, xor_of, and_of, exclusive}
+use Rattle.plans.specs.Plans.{one_more, either, xor_of, and_of}
 use Rattle.plans.specs.Held.{Held}
 use Rattle.plans.proofs.writer.write_exclusive.Goals as goal
 
@@ -12,7 +11,7 @@ returns-then-own c = record {
   few = omega arith;
   held = λ base n ls s.
       let e = cond-true c.args.own.xor (one_more n ls (xor_of c.args.p c.args.q)) (either n ls (and_of c.args.p (turned true c.args.q)) (and_of (turned true c.args.p) c.args.q)) c.if-own.true in
-      subst (Held c.push.new.self c.push.result base n) (ap (one_more n ls) c.two_of_lem.ensures ∙ sym e) (c.push.ensures.held base n ls s);
+      subst (Held c.push.new.self c.push.result base n) (ap (one_more n ls) c.two_of.ensures ∙ sym e) (c.push.ensures.held base n ls s);
 }
 
 pub returns-else-own : goal.returns-else-own

@@ -7,6 +7,6 @@ returns c = record {
   count = omega arith;
   held = λ base n ls s.
       either_held c.push-p.new.self c.push-q.new.self c.push.new.self c.push-p.result c.push-q.result c.push.result
-      c.args.one c.args.other c.two_of_lem.result base n ls
-      (c.push-p.ensures.held base n ls s) (c.push-q.ensures.held base n _) (c.push.ensures.held base n _) c.two_of_lem.ensures;
+      c.args.one c.args.other c.two_of.result base n ls
+      (c.push-p.ensures.held base n ls s) (c.push-q.ensures.held base n _) (c.push.ensures.held base n _) c.two_of.ensures;
 }
