@@ -1,7 +1,6 @@
 -- What is known of a numeral of which some digits are read. Assumes nothing.
-use Rattle.std.proofs.Common.{◌≡◌, ℕ, suc, ◌+◌, ◌-◌, ◌*◌, ◌^◌, ◌<◌, ◌≤◌, Bool, true, false, cond, eqb, ltb, List, [], ◌∷◌, length, get_or, take, drop, is_some, Some, None, Ok, Err, Option, Result, unwrap_or, sym, refl, ap, ◌∙◌, pow-suc, arith, length-drop, drop_of_length-le, take_all, drop-cons, le-ltb}
+use Rattle.std.proofs.Common.{◌≡◌, ℕ, suc, ◌+◌, ◌-◌, ◌*◌, ◌^◌, ◌<◌, ◌≤◌, true, false, cond, eqb, ltb, List, [], ◌∷◌, length, get_or, take, drop, is_some, Some, Ok, Err, Option, unwrap_or, sym, refl, ap, ◌∙◌, pow-suc, arith, length-drop, drop_of_length-le, take_all, drop-cons, le-ltb}
 use native.Mathlib.Nat.{pow-le-pow_right}
-use Rattle.quote.specs.declared.parse.ParseFault.{ParseFault}
 use Rattle.quote.specs.declared.parse.ParseFault.TheVariants.{NotHex}
 use Rattle.quote.specs.Hex.{digit_of, all_digits, worth, number_of, prefixed, table_of}
 
