@@ -1,1 +1,1 @@
-pub mod Extremes
+pub mod Bounds

@@ -1,5 +1,5 @@
 -- What lines answer: earlier answers stay, and the last line reads them.
-use Rattle.std.proofs.Common.{◌≡◌, ℕ, zero, suc, ◌+◌, ◌<◌, ◌≤◌, Bool, true, false, cond, not, ◌&&◌, ◌||◌, List, [], ◌∷◌, ◌++◌, length, get_or, sym, refl, ap, ◌∙◌, subst, ap₂, append_assoc, not-suc-le-zero, add-zero, arith, length-append}
+use Rattle.std.proofs.Common.{◌≡◌, ℕ, suc, ◌+◌, ◌<◌, ◌≤◌, Bool, true, false, ◌&&◌, ◌||◌, List, [], ◌∷◌, ◌++◌, length, get_or, sym, refl, ap, ◌∙◌, subst, not-suc-le-zero, add-zero, arith, length-append}
 use Rattle.std.proofs.lemmas.List.{get_or_append_left, get_or_push}
 use Rattle.tables.specs.declared.Variable.{Variable}
 use Rattle.tables.specs.declared.Variable.TheVariants.{V0, V1, V2, V3}
@@ -13,7 +13,7 @@ use Rattle.plan_lines.specs.declared.Literal.{Literal}
 use Rattle.plan_lines.specs.declared.Line.{Line}
 use Rattle.plan_lines.specs.declared.Inputs.{Inputs}
 use Rattle.plan_lines.specs.Lines.{nth, invert_if, stands, and_table, or_table, xor_table, two_of, and_of, or_of, xor_of}
-use Rattle.plan_lines.specs.Lines.{SourceBefore, ReadsBefore, ReadsEarlier, EachReadsEarlier, source_value, literal_value, line_setting, line_value, answers, standing}
+use Rattle.plan_lines.specs.Lines.{SourceBefore, ReadsBefore, ReadsEarlier, EachReadsEarlier, source_value, literal_value, line_value, answers, standing}
 
 -- no variable stands for a line
 abbrev pub NoLine : Inputs → Type 0

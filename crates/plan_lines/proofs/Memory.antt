@@ -1,5 +1,5 @@
 -- What a line more does to the lines that are held.
-use Rattle.std.proofs.Common.{◌≡◌, ℕ, ◌+◌, List, [], ◌∷◌, ◌++◌, take, set, ap, ◌∙◌, ap₂, add-one, take-suc-set}
+use Rattle.std.proofs.Common.{◌≡◌, ℕ, List, [], ◌∷◌, ◌++◌, take, ◌∙◌, ap₂, add-one, take-suc-set}
 use Rattle.plan_lines.specs.declared.Literal.{Literal}
 use Rattle.plan_lines.specs.declared.Line.{Line}
 use Rattle.plan_lines.specs.declared.lines.Lines.{Lines}

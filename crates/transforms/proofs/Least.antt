@@ -1,5 +1,5 @@
 -- The least of a list, where it stands first, and what that says of representatives.
-use Rattle.std.proofs.Common.{◌≡◌, ℕ, zero, suc, ◌+◌, ◌-◌, ◌<◌, ◌≤◌, min, Bool, true, false, eqb, ◌⊎◌, List, [], ◌∷◌, map, length, get_or, sym, refl, ap, ◌∙◌, subst, ap₂, inl, inr, suc-le-suc, le_trans, le_of_suc-le-suc, not-suc-le-zero, zero-lt-suc, le_antisymm, arith, lit<}
+use Rattle.std.proofs.Common.{◌≡◌, ℕ, zero, suc, ◌+◌, ◌<◌, ◌≤◌, Bool, true, false, eqb, List, [], ◌∷◌, map, length, get_or, sym, refl, ap, ◌∙◌, subst, inl, inr, suc-le-suc, le_trans, le_of_suc-le-suc, not-suc-le-zero, zero-lt-suc, le_antisymm, arith, lit<}
 use native.Mathlib.Nat.{min-le_left, min-le_right, le-min, min-eq_left, min-eq_right}
 use Rattle.std.specs.List.{range_with_len}
 use Rattle.std.proofs.lemmas.List.FromFn.{length-map-range_with_len, get_or-map-range_with_len}
@@ -8,7 +8,7 @@ use Rattle.tables.specs.Bits.{inverted}
 use Rattle.tables.specs.Tables.{value}
 use Rattle.transforms.specs.declared.Transform.{Transform}
 use Rattle.transforms.specs.Images.{least, counted, index_of, image, images, transform_at, representative, chosen_transform, IsImage, read_back, LeastImage, FirstTo, NamesClass, Recovers}
-use Rattle.transforms.proofs.Transforms.{Lawful, Numbered, number_of, transform_lawful, image_lt, image-image, image_inverse, composite, composite_lawful, inverse, inverse_lawful, recovered}
+use Rattle.transforms.proofs.Transforms.{Lawful, number_of, transform_lawful, image_lt, image-image, image_inverse, composite, composite_lawful, inverse, inverse_lawful, recovered}
 
 -- ---- lists
 

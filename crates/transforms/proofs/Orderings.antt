@@ -1,5 +1,5 @@
 -- The 24 orders as permutations: they undo and follow one another. Each fact is one test over all of them.
-use Rattle.std.proofs.Common.{◌≡◌, ℕ, zero, suc, ◌+◌, ◌*◌, ◌/◌, ◌%◌, ◌<◌, Bool, true, false, cond, not, T, eqb, ltb, List, [], ◌∷◌, length, get_or, sym, refl, ap, ◌∙◌, subst, arith}
+use Rattle.std.proofs.Common.{◌≡◌, ℕ, suc, ◌<◌, Bool, true, false, not, T, ltb, List, [], ◌∷◌, sym, refl, ◌∙◌, subst}
 use Rattle.std.proofs.lemmas.Bool.{ltb-true, and_from}
 use Rattle.tables.specs.declared.Variable.{Variable}
 use Rattle.tables.specs.declared.Variable.TheVariants.{V0, V1, V2, V3}

@@ -1,19 +1,19 @@
 -- Images of images, and back: the transforms are a group.
-use Rattle.std.proofs.Common.{◌≡◌, ℕ, zero, suc, ◌+◌, ◌*◌, ◌/◌, ◌%◌, ◌<◌, ◌≤◌, Bool, true, false, cond, not, T, leb, List, [], ◌∷◌, length, get_or, sym, refl, ap, ◌∙◌, subst, ap₂, le_of_suc-le-suc, not-suc-le-zero, add-zero, add-suc, suc-add, zero-add, arith, lit<}
+use Rattle.std.proofs.Common.{◌≡◌, ℕ, zero, suc, ◌+◌, ◌*◌, ◌/◌, ◌%◌, ◌<◌, ◌≤◌, Bool, true, false, cond, not, T, leb, List, [], ◌∷◌, length, get_or, sym, refl, ap, ◌∙◌, subst, ap₂, le_of_suc-le-suc, not-suc-le-zero, add-zero, add-suc, suc-add, zero-add, arith}
 use Rattle.std.proofs.lemmas.Bool.{le-leb, lt-leb}
 use Rattle.tables.specs.declared.Variable.{Variable}
 use Rattle.tables.specs.declared.Variable.TheVariants.{V0, V1, V2, V3}
 use Rattle.tables.specs.Bits.{bit, from_bits, inverted}
 use Rattle.tables.specs.Settings.{Setting, get, put, same_variable}
-use Rattle.tables.specs.Tables.{value, table_of, flipped, complement, composed}
+use Rattle.tables.specs.Tables.{value, flipped, complement, composed}
 use Rattle.tables.proofs.Bitwise.{bit-from_bits, from_bits_lt}
-use Rattle.tables.proofs.Laws.{value-table_of, table_of_same, table_of-value, table_of_lt, value-flipped, value-complement, value-composed, flipped_lt, complement_lt, composed_lt, same_values}
+use Rattle.tables.proofs.Laws.{value-table_of, table_of_lt, value-flipped, value-complement, value-composed, flipped_lt, complement_lt, composed_lt, same_values}
 use Rattle.transforms.specs.declared.Order.{Order}
 use Rattle.transforms.specs.declared.Transform.{Transform}
 use Rattle.transforms.specs.Orders.{at, IsOrder, position_in, order_at, orders}
 use Rattle.transforms.specs.Images.{mask_at, read_from, read_at, given_to, read_back, image, transform_at}
 use Rattle.transforms.proofs.Variables.{get-put, same_settings, same_variable_lem, twice, joined}
-use Rattle.transforms.proofs.Orderings.{Listed, order_by, at_order_by, following, following_listed, backwards, backwards_listed, distinct, order_lawful, position_at}
+use Rattle.transforms.proofs.Orderings.{Listed, at_order_by, following, following_listed, backwards, backwards_listed, distinct, order_lawful, position_at}
 
 pub value-image : (t : Transform) (f : ℕ) (x : Setting) → value (image t f) x ≡ inverted t.output (value f (read_at t x))
 unfolding image

@@ -1,5 +1,5 @@
 -- The sixteen masks: each differs from an earlier one in one bit.
-use Rattle.std.proofs.Common.{◌≡◌, ℕ, ◌+◌, ◌*◌, false, List, [], ◌∷◌, sym, refl, ap, ◌∙◌, add-zero, lit<}
+use Rattle.std.proofs.Common.{◌≡◌, ℕ, ◌*◌, false, List, [], ◌∷◌, sym, refl, ap, ◌∙◌, add-zero, lit<}
 use Rattle.tables.specs.declared.Variable.{Variable}
 use Rattle.tables.specs.declared.Variable.TheVariants.{V0, V1, V2, V3}
 use Rattle.tables.specs.Bits.{bit, inverted}

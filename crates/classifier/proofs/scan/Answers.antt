@@ -1,6 +1,6 @@
 use Rattle.std.proofs.Common.{arith, rules}
 use Rattle.classifier.specs.Extremes.{Lowest, Highest}
-use Rattle.classifier.proofs.Extremes.{none_low, none_high, low_class, high_class, class_law}
+use Rattle.classifier.proofs.Bounds.{none_low, none_high, low_class, high_class, class_law}
 use Rattle.classifier.proofs.scan.Goals as goal
 
 pub loop-q-init : goal.loop-q-init

@@ -1,4 +1,4 @@
-use Rattle.std.proofs.Common.{◌≡◌, ℕ, Bool, not, sym, ap, ◌∙◌}
+use Rattle.std.proofs.Common.{ℕ, Bool, not, sym, ap, ◌∙◌}
 use Rattle.tables.specs.Bits.{inverted}
 use Rattle.tables.specs.Settings.{get}
 use Rattle.tables.specs.Tables.{value}
