@@ -16,11 +16,11 @@ returns-then-not-has_node c =
 pub invariant_of-self : goal.invariant_of-self
 invariant_of-self c =
     let h = c.if-not-has_node.ensures in
-    let e : is_there (netlist_of c.args.self.now) c.args.signal.node ≡ true = cc in (
-      ∣ output_still c.args.self.now.store c.args.self.now.inputs c.args.self.now.outputs c.push.new.self c.args.signal e
-          (gates_lawful c.args.self.now) c.push.result c.push.ensures.answer c.push.ensures.kept ∣₁,
-      tt,
-    )
+    let e : is_there (netlist_of c.args.self.now) c.args.signal.node ≡ true = cc in
+    record {
+      lawful = ∣ output_still c.args.self.now.store c.args.self.now.inputs c.args.self.now.outputs c.push.new.self c.args.signal e
+          (gates_lawful c.args.self.now) c.push.result c.push.ensures.answer c.push.ensures.kept ∣₁;
+    }
 
 pub returns-then-push : goal.returns-then-push
 returns-then-push c =

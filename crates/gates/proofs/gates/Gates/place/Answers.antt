@@ -45,11 +45,11 @@ keep_row-requires c =
 pub invariant_of-self : goal.invariant_of-self
 invariant_of-self c =
     let h = c.if-not-has_all.ensures in
-    let w = c.if-not-owns_table.ensures in (
-      ∣ place_still c.args.self.now.store c.keep_row.new.store c.args.self.now.inputs c.args.self.now.outputs c.args.table c.args.fanins c.normal_form-form.result c.normal_form-form.ensures.is (sym h) (λ z. c.if-number-eq0.false (c.number.ensures ∙ z)) (sym w)
-          (gates_lawful c.args.self.now) (omega arith) c.keep_row.result c.keep_row.ensures ∣₁,
-      tt,
-    )
+    let w = c.if-not-owns_table.ensures in
+    record {
+      lawful = ∣ place_still c.args.self.now.store c.keep_row.new.store c.args.self.now.inputs c.args.self.now.outputs c.args.table c.args.fanins c.normal_form-form.result c.normal_form-form.ensures.is (sym h) (λ z. c.if-number-eq0.false (c.number.ensures ∙ z)) (sym w)
+          (gates_lawful c.args.self.now) (omega arith) c.keep_row.result c.keep_row.ensures ∣₁;
+    }
 
 pub overflow_add-self : goal.overflow_add-self
 overflow_add-self c = let l = gates_lawful c.args.self.now in omega arith

@@ -4,11 +4,11 @@ use Rattle.gates.proofs.Rows.{same_kept}
 use Rattle.gates.proofs.Calls.{new_lawful, started, cleared}
 use Rattle.gates.proofs.gates.Gates.start.Goals as goal
 
-pub returns-then-inputs-gt-MOST-INPUTS : goal.returns-then-inputs-gt-MOST-INPUTS
-returns-then-inputs-gt-MOST-INPUTS c = record { answer = (start_many c.args.inputs c.if-inputs-gt-MOST-INPUTS.true, refl); kept = same_kept c.args.self.now.store }
+pub returns-then-inputs-gt-MOST_INPUTS : goal.returns-then-inputs-gt-MOST_INPUTS
+returns-then-inputs-gt-MOST_INPUTS c = record { answer = (start_many c.args.inputs c.if-inputs-gt-MOST_INPUTS.true, refl); kept = same_kept c.args.self.now.store }
 
 pub invariant_of-self : goal.invariant_of-self
-invariant_of-self c = (∣ new_lawful c.clear.new.self c.clear-2.new.self c.args.inputs (omega arith) c.clear.ensures.rows c.clear-2.ensures ∣₁, tt)
+invariant_of-self c = record { lawful = ∣ new_lawful c.clear.new.self c.clear-2.new.self c.args.inputs (omega arith) c.clear.ensures.rows c.clear-2.ensures ∣₁ }
 
 pub returns : goal.returns
 returns c = record {

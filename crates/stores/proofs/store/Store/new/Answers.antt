@@ -7,7 +7,7 @@ pub invariant_of-result : goal.invariant_of-result
 unfolding places_in
 invariant_of-result c =
     let e : c.min-places.result ≡ places_in (coder c.args.coding).width (vec_len c.args.words) = cc in
-    (e, (omega arith, ((λ k h. absurd (not-suc-le-zero h)), tt)))
+    record { room = e; within = omega arith; kept = λ k h. absurd (not-suc-le-zero h) }
 
 pub returns : goal.returns
 unfolding rows_in places_in

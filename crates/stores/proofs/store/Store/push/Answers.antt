@@ -38,7 +38,11 @@ invariant_of-self c =
     let e : c.args.self.now.places ≡ places_in (width_of c.args.self.now) (vec_len c.write_block.new.words) = cc in
     let w = written c.args.self.now c.args.row _ _ _ c.width-width.ensures c.encode-block.ensures.words c.write_block.ensures.items in
     let kept = pushed_kept (coder c.args.self.now.coding) (lawful c.args.self.now.coding) (words_of c.args.self.now) c.args.self.now.count c.args.row c.requires room c.args.self.now.kept in
-    (e, (omega arith, (subst (λ (ws : List ℕ). (k : ℕ) → k < c.args.self.now.count + 1 → kept_at (coder c.args.self.now.coding) ws k ≡ true) (sym w) kept, tt)))
+    record {
+      room = e;
+      within = omega arith;
+      kept = subst (λ (ws : List ℕ). (k : ℕ) → k < c.args.self.now.count + 1 → kept_at (coder c.args.self.now.coding) ws k ≡ true) (sym w) kept;
+    }
 
 pub returns : goal.returns
 returns c =
