@@ -1,9 +1,8 @@
 -- What the calls of a network of gates give, over its parts.
-use Rattle.std.proofs.Common.{◌≡◌, ℕ, ◌+◌, ◌*◌, ◌<◌, ◌≤◌, Bool, true, false, List, [], ◌∷◌, ◌++◌, length, get_or, Some, None, Ok, Err, Result, sym, refl, ap, ◌∙◌, subst, ap₂, inl, inr, arith, MatchResult}
+use Rattle.std.proofs.Common.{◌≡◌, ℕ, ◌<◌, ◌≤◌, Bool, true, false, [], length, get_or, Some, None, Ok, Err, Result, sym, refl, ap, ◌∙◌, subst, ap₂, inl, inr, arith, MatchResult}
 use Rattle.std.specs.List.{slice_get}
 use Rattle.std.proofs.lemmas.Option.{slice_get-get_or, slice_get_past}
 use Rattle.std.proofs.lemmas.Bool.{cases_lt}
-use Rattle.classes.specs.declared.Ownership.{Ownership}
 use Rattle.classes.specs.Owned.{owns}
 use Rattle.netlists.specs.declared.Node.{Node}
 use Rattle.netlists.specs.declared.Signal.{Signal}
@@ -14,18 +13,18 @@ use Rattle.netlists.specs.declared.Refusal.{Refusal}
 use Rattle.netlists.specs.declared.Refusal.TheVariants.{NoSuchRow, TooManyOutputs}
 use Rattle.netlists.specs.Netlists.{Netlist}
 use Rattle.netlists.specs.Normal.{normal}
-use Rattle.netlists.specs.Placing.{Placing, no_row, is_there, all_there, row_node, signal_of, empty, after_start, after_place, after_output, with_output, row_asked}
+use Rattle.netlists.specs.Placing.{Placing, no_row, is_there, all_there, row_node, signal_of, empty, after_start, after_place, after_output, row_asked}
 use Rattle.netlists.specs.Lawful.{Lawful}
 use Rattle.netlists.proofs.Ways.{start_few, row_there, row_missing, place_owned, output_few, output_many}
 use Rattle.netlists.proofs.Places.{empty_lawful, place_placed, output_lawful}
 use Rattle.codings.specs.declared.coding.Coding.{Coding}
 use Rattle.codings.specs.Codings.{ownership_of}
 use Rattle.stores.specs.declared.store.Store.{Store}
-use Rattle.stores.specs.Stores.{rows_of, words_of, width_of, Alike}
+use Rattle.stores.specs.Stores.{rows_of, Alike}
 use Rattle.stores.proofs.Stores.{places_few}
 use Rattle.gates.specs.declared.outputs.Outputs.{Outputs}
 use Rattle.gates.specs.Outputs.{signals_of, Added}
-use Rattle.gates.specs.Keeping.{holding, Kept, RowKept, RowRefused}
+use Rattle.gates.specs.Keeping.{Kept, RowKept, RowRefused}
 use Rattle.gates.specs.Parts.{netlist_in, LawfulIn}
 
 -- ---- start

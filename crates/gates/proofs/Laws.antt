@@ -6,10 +6,8 @@ use native.Mathlib.Bridge.{le_prop}
 use base.Stored.{Coded-set, coded_ℕ, coded_bool}
 use Rattle.classes.specs.declared.Ownership.{Ownership}
 use Rattle.netlists.specs.Netlists.{Netlist}
-use Rattle.netlists.specs.Lawful.{Normal, LawfulRow, Lawful}
+use Rattle.netlists.specs.Lawful.{LawfulRow, Lawful}
 use Rattle.netlists.specs.Placing.{no_row}
-use Rattle.stores.specs.declared.store.Store.{Store}
-use Rattle.gates.specs.declared.outputs.Outputs.{Outputs}
 use Rattle.gates.specs.declared.gates.Gates.{Gates}
 use Rattle.gates.specs.Parts.{LawfulIn}
 use Rattle.gates.specs.Gates.{owned_by, places_of, netlist_of}

@@ -1,5 +1,5 @@
 -- What keeping a row gives, by the way that it goes; and that a normal form that is owned can be kept.
-use Rattle.std.proofs.Common.{◌≡◌, ℕ, ◌+◌, ◌*◌, ◌<◌, ◌≤◌, Bool, true, List, [], ◌∷◌, ◌++◌, length, get_or, Ok, Err, sym, refl, ap, ◌∙◌, subst, arith}
+use Rattle.std.proofs.Common.{◌≡◌, ℕ, ◌+◌, ◌<◌, ◌≤◌, true, length, get_or, sym, refl, ap, ◌∙◌, subst, arith}
 use Rattle.std.proofs.lemmas.List.{length_push}
 use Rattle.std.proofs.lemmas.Bool.{leb-true, and_parts}
 use Rattle.tables.specs.declared.Variable.{Variable}
@@ -9,19 +9,18 @@ use Rattle.netlists.specs.declared.Signal.{Signal}
 use Rattle.netlists.specs.declared.Row.{Row}
 use Rattle.netlists.specs.declared.Fanins.{Fanins}
 use Rattle.netlists.specs.declared.Form.{Form}
-use Rattle.netlists.specs.declared.Refusal.{Refusal}
 use Rattle.netlists.specs.declared.Refusal.TheVariants.{NoPlace}
 use Rattle.netlists.specs.Netlists.{Netlist}
 use Rattle.netlists.specs.Normal.{node_at, normal}
-use Rattle.netlists.specs.Placing.{is_there, all_there, no_row, place_row, row_node, signal_of, with_row}
+use Rattle.netlists.specs.Placing.{is_there, all_there, no_row}
 use Rattle.netlists.specs.Lawful.{Normal, FormOf}
 use Rattle.netlists.proofs.Nodes.{normal_nodes}
 use Rattle.netlists.proofs.Ways.{row_found, row_added, row_full}
 use Rattle.codings.specs.declared.coding.Coding.{Coding}
-use Rattle.codings.specs.Codings.{coder, ownership_of, Shaped, Near}
+use Rattle.codings.specs.Codings.{coder, ownership_of, Shaped}
 use Rattle.codings.proofs.Owned.{codable}
 use Rattle.stores.specs.declared.store.Store.{Store}
-use Rattle.stores.specs.Stores.{rows_of, words_of, width_of, Absent, First, Pushed}
+use Rattle.stores.specs.Stores.{rows_of, Absent, First, Pushed}
 use Rattle.stores.proofs.Stores.{rows_most, absent_get_or, first-get_or}
 use Rattle.gates.specs.Keeping.{holding, Kept, RowKept, RowRefused}
 

@@ -1,6 +1,6 @@
 -- What the calls of a network of gates are for a kind, whose coding is fixed.
 use Rattle.std.specs.Prelude.{◌≡◌, ℕ, Ok, Err, Result, MatchResult, refl}
-use Rattle.std.proofs.Common.{sym, ◌∙◌, ap, subst, arith}
+use Rattle.std.proofs.Common.{◌∙◌, ap, subst, arith}
 use Rattle.netlists.specs.declared.Signal.{Signal}
 use Rattle.netlists.specs.declared.Fanins.{Fanins}
 use Rattle.netlists.specs.declared.Refusal.{Refusal}

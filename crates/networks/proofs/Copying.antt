@@ -1,6 +1,6 @@
 -- The steps of a copy, over plain lists.
 use Rattle.std.proofs.Common.{◌≡◌, ℕ, ◌+◌, ◌<◌, ◌≤◌, Bool, true, false, List, [], ◌∷◌, ◌++◌, map, length, get_or, take, drop, set, Ok, Err, Result, sym, refl, ap, ◌∙◌, subst, ap₂, arith}
-use Rattle.std.proofs.lemmas.List.{get_or_past, get_or-take, length-take-le, take_more_set, at_drop_more, at_drop_all}
+use Rattle.std.proofs.lemmas.List.{get_or_past, length-take-le, take_more_set, at_drop_more, at_drop_all}
 use Rattle.std.specs.List.{range_with_len}
 use Rattle.std.proofs.lemmas.List.FromFn.{map-range_with_len_more}
 use Rattle.classes.specs.declared.Ownership.{Ownership}

@@ -1,17 +1,14 @@
 -- A copy depends on which nodes are kept, and not on how that is told.
-use Rattle.std.proofs.Common.{◌≡◌, ℕ, zero, suc, ◌+◌, ◌<◌, ◌≤◌, Bool, true, false, cond, List, [], ◌∷◌, ◌++◌, map, length, get_or, Ok, Err, Result, sym, refl, ap, ◌∙◌, subst, ap₂, add-zero, add-one, arith, MatchResult}
-use Rattle.std.specs.List.{range_with_len}
+use Rattle.std.proofs.Common.{◌≡◌, ℕ, zero, suc, ◌+◌, ◌<◌, ◌≤◌, Bool, true, false, cond, List, [], ◌∷◌, length, Ok, Err, Result, sym, refl, ap, ◌∙◌, subst, ap₂, add-zero, add-one, arith, MatchResult}
 use Rattle.std.proofs.lemmas.List.FromFn.{length-map-range_with_len}
 use Rattle.std.proofs.lemmas.List.{length_push}
 use Rattle.classes.specs.declared.Ownership.{Ownership}
 use Rattle.netlists.specs.declared.Row.{Row}
-use Rattle.netlists.specs.declared.Signal.{Signal}
 use Rattle.netlists.specs.declared.Refusal.{Refusal}
-use Rattle.netlists.specs.declared.Refusal.TheVariants.{NoPlace}
 use Rattle.netlists.specs.Netlists.{Netlist}
 use Rattle.netlists.specs.Placing.{Placing, after_place, no_signal}
 use Rattle.netlists.specs.Lawful.{Lawful}
-use Rattle.netlists.specs.Copies.{Copy, fanins_in, and_then, noted, skipped, place_next, copy_row, copy_rows, copy_outputs, fresh, kept_before, copy_kept, copied, swept, reached, reached_rows, Swept}
+use Rattle.netlists.specs.Copies.{Copy, fanins_in, and_then, noted, skipped, place_next, copy_row, copy_rows, copy_outputs, fresh, kept_before, copy_kept, copied, swept, reached, Swept}
 use Rattle.netlists.proofs.Sweeps.{copy_itself, sweep_swept}
 use Rattle.networks.specs.Copying.{Due, marked}
 use Rattle.networks.proofs.Copying.{plain, never}

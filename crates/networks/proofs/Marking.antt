@@ -1,21 +1,18 @@
 -- Marks of the nodes that outputs reach.
-use Rattle.std.proofs.Common.{◌≡◌, ℕ, zero, suc, ◌+◌, ◌-◌, ◌<◌, ◌≤◌, Bool, true, false, cond, leb, List, [], ◌∷◌, ◌++◌, length, get_or, drop, replicate, Ok, Err, Result, sym, refl, ap, ◌∙◌, subst, ap₂, arith}
+use Rattle.std.proofs.Common.{◌≡◌, ℕ, zero, suc, ◌+◌, ◌<◌, ◌≤◌, Bool, true, false, List, [], ◌∷◌, ◌++◌, length, get_or, drop, replicate, sym, refl, ◌∙◌, subst, arith}
 use Rattle.std.proofs.lemmas.List.{drop_all, drop_more}
 use Rattle.std.proofs.lemmas.Bool.{leb-true}
 use Rattle.tables.specs.declared.Variable.{Variable}
-use Rattle.tables.specs.declared.Variable.TheVariants.{V0, V1, V2, V3}
 use Rattle.classes.specs.declared.Ownership.{Ownership}
 use Rattle.netlists.specs.declared.Row.{Row}
 use Rattle.netlists.specs.declared.Signal.{Signal}
-use Rattle.netlists.specs.declared.Refusal.{Refusal}
 use Rattle.netlists.specs.Netlists.{Netlist}
 use Rattle.netlists.specs.Normal.{node_at}
-use Rattle.netlists.specs.Placing.{no_row, no_signal, row_asked, output_asked}
+use Rattle.netlists.specs.Placing.{no_row, no_signal}
 use Rattle.netlists.specs.Lawful.{Lawful}
-use Rattle.netlists.specs.Copies.{has, nodes_of, claim, claims, output_nodes, reached, kept_before}
-use Rattle.netlists.proofs.Ways.{taken, passed, row_there, output_there}
-use Rattle.networks.specs.Copying.{Marks, marked}
-use Rattle.networks.proofs.Copying.{never, row_read, output_read}
+use Rattle.netlists.specs.Copies.{has, nodes_of, claim, claims, output_nodes}
+use Rattle.netlists.proofs.Ways.{taken, passed}
+use Rattle.networks.specs.Copying.{Marks}
 
 -- ---- one row
 

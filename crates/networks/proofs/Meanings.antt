@@ -5,7 +5,7 @@ use Rattle.netlists.specs.declared.Signal.{Signal}
 use Rattle.netlists.specs.declared.Fanins.{Fanins}
 use Rattle.netlists.specs.declared.Refusal.{Refusal}
 use Rattle.netlists.specs.Netlists.{Netlist}
-use Rattle.netlists.specs.Placing.{Placing, after_place}
+use Rattle.netlists.specs.Placing.{after_place}
 use Rattle.netlists.specs.Lawful.{Lawful}
 use Rattle.netlists.specs.Meaning.{Placed}
 use Rattle.netlists.proofs.Places.{place_placed}

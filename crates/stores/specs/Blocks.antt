@@ -1,5 +1,5 @@
 -- Rows in a list of words: row i has the words from width * i on.
-use Rattle.std.specs.Prelude.{◌≡◌, ℕ, zero, suc, ◌+◌, ◌*◌, ◌/◌, ◌<◌, min, Bool, cond, ◌&&◌, List, [], ◌∷◌, ◌++◌, ◌==◌, ◌≢◌, nat_lt, slice_index, slice_set}
+use Rattle.std.specs.Prelude.{ℕ, zero, suc, ◌+◌, ◌*◌, ◌/◌, ◌<◌, min, Bool, cond, ◌&&◌, List, [], ◌∷◌, ◌++◌, ◌==◌, ◌≢◌, nat_lt, slice_index, slice_set}
 use Rattle.netlists.specs.declared.Row.{Row}
 use Rattle.codings.specs.declared.coded.Coded.{Coded}
 use Rattle.codings.specs.Coders.{Coder}

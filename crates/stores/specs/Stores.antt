@@ -1,5 +1,5 @@
 -- What a store holds, and what a call does to it.
-use Rattle.std.specs.Prelude.{◌≡◌, ℕ, ◌+◌, ◌*◌, ◌<◌, ◌≤◌, List, [], ◌∷◌, ◌++◌, length, Some, vec_items, ◌≢◌, slice_index}
+use Rattle.std.specs.Prelude.{◌≡◌, ℕ, ◌*◌, ◌<◌, ◌≤◌, List, [], ◌∷◌, ◌++◌, length, Some, vec_items, ◌≢◌, slice_index}
 use Rattle.std.specs.List.{slice_get}
 use Rattle.netlists.specs.declared.Row.{Row}
 use Rattle.codings.specs.Codings.{coder}

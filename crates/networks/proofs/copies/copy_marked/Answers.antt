@@ -1,8 +1,7 @@
-use Rattle.std.proofs.Common.{◌≡◌, ℕ, ◌+◌, ◌≤◌, length, Err, sym, ap, ◌∙◌, arith}
+use Rattle.std.proofs.Common.{◌≡◌, ◌+◌, ◌≤◌, length, Err, ap, ◌∙◌, arith}
 use Rattle.std.proofs.lemmas.Result.{err_from_is_err_and}
 use Rattle.netlists.specs.Placing.{empty, after_start}
 use Rattle.netlists.proofs.Ways.{start_few}
-use Rattle.networks.specs.Copying.{under}
 use Rattle.networks.proofs.Copying.{never, err_due, due_same, kept_err, kept_ok, outputs_at}
 use Rattle.networks.proofs.copies.copy_marked.Goals as goal
 

@@ -1,4 +1,4 @@
-use Rattle.std.proofs.Common.{◌≡◌, ℕ, ◌≤◌, true, false, length, replicate, arith}
+use Rattle.std.proofs.Common.{◌≤◌, true, false, length, replicate, arith}
 use Rattle.std.proofs.lemmas.List.{get_or-replicate}
 use Rattle.networks.proofs.Keeping.{whole_copy}
 use Rattle.networks.proofs.copies.copy_netlist.Goals as goal

@@ -1,8 +1,8 @@
-use Rattle.std.proofs.Common.{◌≡◌, ℕ, ◌+◌, ◌<◌, ◌≤◌, length, get_or, Err, sym, refl, ap, ◌∙◌, subst, arith}
+use Rattle.std.proofs.Common.{◌≡◌, ◌<◌, length, get_or, Err, refl, ap, ◌∙◌, arith}
 use Rattle.std.proofs.lemmas.Result.{err_from_is_err_and}
 use Rattle.netlists.specs.Placing.{no_row}
 use Rattle.netlists.proofs.Ways.{row_there}
-use Rattle.networks.specs.Copying.{under, marked}
+use Rattle.networks.specs.Copying.{marked}
 use Rattle.networks.proofs.Copying.{never, err_due, row_read, loop_more, loop_err, loop_end}
 use Rattle.networks.proofs.copies.copy_rows.Goals as goal
 

@@ -1,5 +1,4 @@
-use Rattle.std.proofs.Common.{◌≡◌, ℕ, ◌+◌, ◌≤◌, sym, ap, ◌∙◌, arith}
-use Rattle.netlists.specs.Copies.{kept_before}
+use Rattle.std.proofs.Common.{◌≡◌, ◌+◌, arith}
 use Rattle.networks.specs.Copying.{marked}
 use Rattle.networks.proofs.Keeping.{before_hit, before_miss}
 use Rattle.networks.proofs.sweeps.count_marked.Goals as goal

@@ -1,4 +1,4 @@
-use Rattle.std.proofs.Common.{◌≡◌, ℕ, ◌+◌, ◌-◌, ◌<◌, ◌≤◌, ◌∷◌, length, get_or, drop, sym, ap, ◌∙◌, subst, arith}
+use Rattle.std.proofs.Common.{◌≡◌, ◌+◌, ◌-◌, ◌<◌, ◌≤◌, ◌∷◌, length, get_or, drop, ap, ◌∙◌, subst, arith}
 use Rattle.netlists.specs.declared.Node.{Node}
 use Rattle.netlists.specs.declared.Signal.{Signal}
 use Rattle.netlists.specs.Placing.{no_signal}

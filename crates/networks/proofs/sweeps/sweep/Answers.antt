@@ -1,7 +1,7 @@
-use Rattle.std.proofs.Common.{◌≡◌, ℕ, ◌<◌, ◌≤◌, length, sym, refl, ◌∙◌, arith}
-use Rattle.netlists.specs.Copies.{reached, kept_before}
+use Rattle.std.proofs.Common.{◌≤◌, length, refl, arith}
+use Rattle.netlists.specs.Copies.{kept_before}
 use Rattle.networks.specs.Copying.{marked}
-use Rattle.networks.proofs.Keeping.{before_same, swept_copy}
+use Rattle.networks.proofs.Keeping.{swept_copy}
 use Rattle.networks.proofs.Marking.{none-marked}
 use Rattle.networks.proofs.sweeps.sweep.Goals as goal
 

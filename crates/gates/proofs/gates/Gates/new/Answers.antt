@@ -1,4 +1,4 @@
-use Rattle.std.proofs.Common.{◌≡◌, List, [], sym, subst, arith}
+use Rattle.std.proofs.Common.{arith}
 use Rattle.gates.proofs.Calls.{new_lawful}
 use Rattle.gates.proofs.gates.Gates.new.Goals as goal
 

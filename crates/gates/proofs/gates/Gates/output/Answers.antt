@@ -1,4 +1,4 @@
-use Rattle.std.proofs.Common.{◌≡◌, true, false, sym, refl, ◌∙◌}
+use Rattle.std.proofs.Common.{◌≡◌, true, false, refl}
 use Rattle.netlists.specs.Placing.{is_there}
 use Rattle.netlists.proofs.Ways.{output_missing}
 use Rattle.gates.specs.Gates.{netlist_of}

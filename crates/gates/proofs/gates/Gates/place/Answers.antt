@@ -1,4 +1,4 @@
-use Rattle.std.proofs.Common.{◌≡◌, ℕ, ◌+◌, ◌<◌, ◌≤◌, true, false, sym, refl, ap, ◌∙◌, arith}
+use Rattle.std.proofs.Common.{◌≡◌, sym, refl, ◌∙◌, arith}
 use Rattle.netlists.specs.Placing.{row_node}
 use Rattle.netlists.proofs.Ways.{place_missing, place_lone, place_unowned}
 use Rattle.stores.proofs.Stores.{rows_most, places_few}

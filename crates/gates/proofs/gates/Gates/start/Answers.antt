@@ -1,5 +1,5 @@
-use Rattle.std.proofs.Common.{◌≡◌, sym, refl, subst, arith}
-use Rattle.netlists.proofs.Ways.{start_many, start_few}
+use Rattle.std.proofs.Common.{refl, arith}
+use Rattle.netlists.proofs.Ways.{start_many}
 use Rattle.gates.proofs.Rows.{same_kept}
 use Rattle.gates.proofs.Calls.{new_lawful, started, cleared}
 use Rattle.gates.proofs.gates.Gates.start.Goals as goal

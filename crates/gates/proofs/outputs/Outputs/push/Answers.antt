@@ -3,8 +3,8 @@ use Rattle.std.proofs.lemmas.Bool.{true≢false}
 use Rattle.gates.proofs.Signals.{signals_count, signals_more}
 use Rattle.gates.proofs.outputs.Outputs.push.Goals as goal
 
-pub returns-then-n-ge-MOST-OUTPUTS : goal.returns-then-n-ge-MOST-OUTPUTS
-returns-then-n-ge-MOST-OUTPUTS c =
+pub returns-then-n-ge-MOST_OUTPUTS : goal.returns-then-n-ge-MOST_OUTPUTS
+returns-then-n-ge-MOST_OUTPUTS c =
     let e = signals_count c.args.self.now in
     record { answer = omega arith; kept = λ _. refl }
 
