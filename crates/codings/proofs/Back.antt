@@ -3,6 +3,7 @@ use Rattle.std.proofs.Common.{◌≡◌, ℕ, ◌+◌, ◌*◌, ◌/◌, ◌%◌
 use Rattle.std.proofs.lemmas.Bool.{and_parts, or_cases, eqb-true, ltb-true}
 use Rattle.netlists.specs.declared.Row.{Row}
 use Rattle.codings.specs.Coders.{Lawful}
+use Rattle.codings.specs.declared.coded.Coded.{Coded}
 use Rattle.codings.specs.declared.coding.Coding.{Coding}
 use Rattle.codings.specs.declared.coding.Coding.TheVariants.{And, AndXor, Majority, Every}
 use Rattle.codings.specs.Codings.{coder}
@@ -134,6 +135,11 @@ lawful Every = record {
   fourth = λ _ h. absurd (no_five 3 (omega arith) h);
   fifth = λ _ h. absurd (no_five 4 (omega arith) h);
 }
+
+-- ---- the words of a row that a coding codes come back as that row
+
+pub back_from : (c : Coding) (r : Row) (w : Coded) → w ≡ (coder c).encode r → (coder c).codes r ≡ true → (coder c).decode w ≡ r
+back_from c r w e h = ap (coder c).decode e ∙ (lawful c).back r h
 
 -- ---- two rows that a coding codes have the same words only where they are equal
 

@@ -47,6 +47,17 @@ part_of h p v t d e =
     let f : support_size p < support_size h = subst (λ (g : ℕ). support_size g < support_size h) (sym e) (support_falls h v t d.depends) in
     record { falls = f; room = bound_step (support_size p) (support_size h) f d.more }
 
+-- the same of a part that the code has written, and of what it may still write, without a name for the part's table
+pub part_adds : (h p : ℕ) (v : Variable) (t : Bool) (n m : ℕ) → Divides h v → p ≡ cofactor h v t → m ≤ n + bound (support_size p)
+    → 3 + 2 * m ≤ bound (support_size h) + 2 * n
+part_adds h p v t n m d e few = let r = (part_of h p v t d e).room in omega (arith, few)
+
+pub part_falls : (h p : ℕ) (v : Variable) (t : Bool) → Divides h v → p ≡ cofactor h v t → support_size p < support_size h
+part_falls h p v t d e = (part_of h p v t d e).falls
+
+pub part_asks : (h p : ℕ) (v : Variable) (t : Bool) (n : ℕ) → Divides h v → p ≡ cofactor h v t → 2 * n + bound (support_size h) ≤ 45 → n + bound (support_size p) ≤ 21
+part_asks h p v t n d e few = let r = (part_of h p v t d e).room in omega (arith, few)
+
 -- ---- what is held
 
 pub start : (m : Lines) → Stored m (listed m) m.count []

@@ -7,7 +7,7 @@ use Rattle.plans.specs.declared.Line.{Line}
 use Rattle.plans.specs.Lines.{nothing, turned, stands}
 use Rattle.plans.specs.Plans.{and_of, or_of, whole_of, one_more, either, exclusive, split}
 use Rattle.plans.specs.Held.{Held}
-use Rattle.plans.proofs.Writing.{part_of, bound_three, start, no_part, one_part, two_parts}
+use Rattle.plans.proofs.Writing.{part_of, part_falls, part_adds, part_asks, bound_three, start, no_part, one_part, two_parts}
 use Rattle.plans.proofs.writer.+write_table.Goals as goal
 
 pub push-requires : goal.push-requires
@@ -91,29 +91,19 @@ write_exclusive-requires t c =
 pub write_table-high-requires : goal.write_table-high-requires
 write_table-high-requires t c =
     let f = c.in-Split.ensures.fits in
-    let p = part_of c.args.h c.high_cofactor-in-Split.result c.in-Split.v true (f) c.high_cofactor-in-Split.ensures in
-    let lt : support_size c.high_cofactor-in-Split.result < support_size c.args.h = p.falls in
-    let room = p.room in
-    (search rules, omega (arith, c.requires))
+    (search (rules, part_falls), part_asks c.args.h _ c.in-Split.v true _ f (search rules) (omega (arith, c.requires)))
 
 pub write_table-low-requires : goal.write_table-low-requires
 write_table-low-requires t c =
     let f = c.in-Split.ensures.fits in
-    let o = part_of c.args.h c.high_cofactor-in-Split.result c.in-Split.v true f c.high_cofactor-in-Split.ensures in
-    let p = part_of c.args.h c.low_cofactor-in-Split.result c.in-Split.v false f c.low_cofactor-in-Split.ensures in
-    let lt : support_size c.low_cofactor-in-Split.result < support_size c.args.h = p.falls in
-    let r = o.room in
-    let s = p.room in
-    (search rules, omega (arith, c.requires, c.write_table-high.ensures.few))
+    let high = part_adds c.args.h _ c.in-Split.v true _ _ f (search rules) c.write_table-high.ensures.few in
+    (search (rules, part_falls), part_asks c.args.h _ c.in-Split.v false _ f (search rules) (omega (arith, c.requires, high)))
 
 pub push_either-requires : goal.push_either-requires
 push_either-requires t c =
-    let f = c.in-Split.ensures.fits in
-    let o = part_of c.args.h c.high_cofactor-in-Split.result c.in-Split.v true f c.high_cofactor-in-Split.ensures in
-    let p = part_of c.args.h c.low_cofactor-in-Split.result c.in-Split.v false f c.low_cofactor-in-Split.ensures in
-    let r = o.room in
-    let s = p.room in
-    omega (arith, c.requires, c.write_table-high.ensures.few, c.write_table-low.ensures.few)
+    let high = part_adds c.args.h _ c.in-Split.v true _ _ c.in-Split.ensures.fits (search rules) c.write_table-high.ensures.few in
+    let low = part_adds c.args.h _ c.in-Split.v false _ _ c.in-Split.ensures.fits (search rules) c.write_table-low.ensures.few in
+    omega (arith, c.requires, high, low)
 
 pub returns-in-Constant : goal.returns-in-Constant
 returns-in-Constant t c = record {
@@ -223,22 +213,22 @@ returns-in-Exclusive t c =
 pub returns-in-Split : goal.returns-in-Split
 returns-in-Split t c =
     let f = c.in-Split.ensures.fits in
-    let o = part_of c.args.h c.high_cofactor-in-Split.result c.in-Split.v true f c.high_cofactor-in-Split.ensures in
-    let p = part_of c.args.h c.low_cofactor-in-Split.result c.in-Split.v false f c.low_cofactor-in-Split.ensures in
     let high = c.write_table-high in
     let low = c.write_table-low in
+    let more = part_adds c.args.h _ c.in-Split.v true _ _ f (search rules) high.ensures.few in
+    let most = part_adds c.args.h _ c.in-Split.v false _ _ f (search rules) low.ensures.few in
     let last = c.push_either in
     let v = stands c.args.inputs c.in-Split.v in
     let one : c.two_of-in-Split.result ≡ and_of v high.result = c.two_of-in-Split.ensures ∙ ap (λ (l : Literal). and_of l high.result) c.of-p.ensures in
     let two : c.two_of-in-Split-2.result ≡ and_of (turned true v) low.result =
     c.two_of-in-Split-2.ensures ∙ ap (λ (l : Literal). and_of l low.result) (c.turn-in-Split.ensures ∙ ap (turned true) c.of-p.ensures) in
     record {
-      few = let r = o.room in let s = p.room in let less = high.ensures.few in let more = low.ensures.few in omega arith;
+      few = omega (arith, more, most);
       held =
           two_parts c.args.lines.now high.new.lines low.new.lines last.new.self high.result low.result last.result
-          c.args.own c.args.inputs c.args.h c.high_cofactor-in-Split.result c.low_cofactor-in-Split.result c.in-Split.v true false (Split c.in-Split.v)
+          c.args.own c.args.inputs c.args.h _ _ c.in-Split.v true false (Split c.in-Split.v)
           (λ n ls q s. split n ls v q s)
-          c.in-Split.ensures.rule (λ g n. refl) o.falls c.high_cofactor-in-Split.ensures p.falls c.low_cofactor-in-Split.ensures
+          c.in-Split.ensures.rule (λ g n. refl) (search (rules, part_falls)) (search rules) (search (rules, part_falls)) (search rules)
           high.ensures.held low.ensures.held
           (λ base n ls s. subst (λ (l : Line). Held last.new.self last.result base n (either n ls (and_of v high.result) l)) two
           (subst (λ (l : Line). Held last.new.self last.result base n (either n ls l c.two_of-in-Split-2.result)) one (last.ensures.held base n ls s)));
