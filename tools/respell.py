@@ -3,8 +3,9 @@
 
 A definition, a lemma or a field whose name begins with a small letter is written in snake case. A dash stays where it
 joins the names of two functions, as in `bit-from_bits`; any other dash becomes an underscore. A lemma that would have
-the name of its function gets `_lem`. Types and facts keep their capitals. Names of Rattle source, of goals, of modules and of strings are not touched. The rows, old and new,
-stand in respelled.tsv beside this script, so that it turns an older commit alike.
+the name of its function gets `_lem`. Types and facts keep their capitals. Names of Rattle source, of modules and of
+the library, and strings, are not touched; names of goals are, where they are spelled like a row, and are mended by
+hand. The rows, old and new, stand in respelled.tsv beside this script, so that it turns an older commit alike.
 
 usage: respell.py           turns every .antt and .rt file below crates/ by the rows
        respell.py --rows    writes the rows from the files as they are, and prints each new name that was a word before
