@@ -1,14 +1,18 @@
 #!/usr/bin/env python3
-"""Brings the repository's own definitions and lemmas to snake case. Run once, at the top, right after the kit's port.py.
+"""Brings the repository's own definitions and lemmas to snake case. Run at the top, once, right after the kit's port.py:
+four new names are old ones too (as `read_back`), so that a second run would turn definitions into lemmas' names.
 
 A definition, a lemma or a field whose name begins with a small letter is written in snake case. A dash stays where it
 joins the names of two functions, as in `bit-from_bits`; any other dash becomes an underscore. A lemma that would have
-the name of its function gets `_lem`. Types and facts keep their capitals. Names of Rattle source, of modules and of
-the library, and strings, are not touched; names of goals are, where they are spelled like a row, and are mended by
-hand. The rows, old and new, stand in respelled.tsv beside this script, so that it turns an older commit alike.
+the name of a function of the repository gets `_lem`. Types and facts keep their capitals. It goes by spelling: in an
+.antt file every word that is spelled like a row turns, names of goals and words of comments too, and what should not
+have turned is mended by hand; in an .rt file strings stay, and a row without a capital or a dash is not used. Names that
+a file imports from std are no rows. The rows, old and new, stand in respelled.tsv beside this script, so that it turns
+an older commit alike.
 
 usage: respell.py           turns every .antt and .rt file below crates/ by the rows
-       respell.py --rows    writes the rows from the files as they are, and prints each new name that was a word before
+       respell.py --rows    writes the rows from the files as they are, where there are none yet, and prints each new name
+                            that was a word before
 """
 
 import collections
@@ -108,6 +112,8 @@ def turn_source(text, turned):
 
 
 def write_rows():
+    if os.path.exists(ROWS):
+        raise SystemExit(f"{ROWS} is there already")
     turned = rows(collect())
     seen = set()
     for path in files(".antt"):
