@@ -1,7 +1,9 @@
 // Which tables belong to the classes that kinds of network own.
 ghost use Rattle.std.specs.Prelude.{◌≡◌, ◌==◌};
-ghost use Rattle.classes.specs.Images.{representative};
-ghost use Rattle.classes.specs.Owned.{member, owns};
+ghost use Rattle.transforms.specs.Images.{representative};
+ghost use Rattle.classes.specs.declared.Ownership.{Ownership};
+ghost use Rattle.classes.specs.Owned.{owns};
+ghost use Rattle.classes.specs.Normal.{NormalTable, normal_class, owns_named};
 
 use crate::Ownership;
 use tables::Table;
@@ -26,37 +28,25 @@ const MAJORITIES: [Table; 32] = [
     0xD4D4, 0xDD44, 0xE8E8, 0xEE88, 0xF330, 0xF550, 0xFAA0, 0xFCC0,
 ];
 
-// Whether a table is among some others.
-fn is_listed(tables: &[Table], f: Table) -> bool
-    ensures { result ≡ member f tables.now }
-{
-    for g in tables {
-        if *g == f {
-            return true;
-        }
-    }
-    false
-}
-
 /// Whether a table is in class 15.
 pub fn is_conjunction(f: Table) -> bool
     ensures { result ≡ (representative f == 15) }
 {
-    is_listed(&CONJUNCTIONS, f)
+    CONJUNCTIONS.contains(&f)
 }
 
 /// Whether a table is in class 4080.
 pub fn is_exclusive_or(f: Table) -> bool
     ensures { result ≡ (representative f == 4080) }
 {
-    is_listed(&EXCLUSIVE_ORS, f)
+    EXCLUSIVE_ORS.contains(&f)
 }
 
 /// Whether a table is in class 831.
 pub fn is_majority(f: Table) -> bool
     ensures { result ≡ (representative f == 831) }
 {
-    is_listed(&MAJORITIES, f)
+    MAJORITIES.contains(&f)
 }
 
 /// Whether the class of a table is owned.
@@ -67,4 +57,40 @@ pub fn is_owned(own: Ownership, f: Table) -> bool
         || is_conjunction(f)
         || (own.xor && is_exclusive_or(f))
         || (own.majority && is_majority(f))
+}
+
+// The three classes, and the rest.
+#[derive(Clone, Copy)]
+enum NamedClass {
+    Conjunction,
+    ExclusiveOr,
+    Majority,
+    Other,
+}
+
+// The class of the table of a row in normal form.
+fn normal_class(f: Table) -> NamedClass
+    ensures class { result ≡ normal_class f }
+    ensures owned { (own : Ownership) → NormalTable f → owns own f ≡ owns_named own result }
+{
+    match f {
+        0x8888 | 0x2222 | 0x4444 | 0xEEEE => NamedClass::Conjunction,
+        0x6666 => NamedClass::ExclusiveOr,
+        0xE8E8 | 0xD4D4 | 0xB2B2 | 0x8E8E => NamedClass::Majority,
+        _ => NamedClass::Other,
+    }
+}
+
+/// Whether the class of the table of a row in normal form is owned, by a look at the table alone.
+/// Any other table counts as one of no named class.
+pub fn owns_normal(own: Ownership, f: Table) -> bool
+    ensures named { result ≡ owns_named own (normal_class f) }
+    ensures owned { NormalTable f → result ≡ owns own f }
+{
+    match normal_class(f) {
+        NamedClass::Conjunction => true,
+        NamedClass::ExclusiveOr => own.every || own.xor,
+        NamedClass::Majority => own.every || own.majority,
+        NamedClass::Other => own.every,
+    }
 }

@@ -1,16 +1,18 @@
 -- A row whose table is of an owned class is coded: each class is gone through once.
-use Rattle.std.proofs.Common.{◌≡◌, ℕ, ◌<◌, Bool, true, false, not, ◌&&◌, ◌||◌, T, eqb, ltb, List, [], ◌∷◌, sym, refl, ap, ◌∙◌, subst, ⊎_elim, arith, lit<}
+use Rattle.std.proofs.Common.{◌≡◌, ℕ, ◌<◌, Bool, true, false, not, ◌&&◌, ◌||◌, T, eqb, ltb, List, [], ◌∷◌, sym, refl, ap, ◌∙◌, subst, ⊎_elim, arith}
 use Rattle.std.proofs.lemmas.Bool.{and_parts, and_from, or_cases, or_left, or_right, eqb-true, ltb-true, lt-ltb, ltb-false, eq-eqb, both_ways, not-true, cases_Bool}
+use Rattle.tables.specs.Lists.{member}
 use Rattle.tables.specs.Bits.{bit, from_bits}
 use Rattle.tables.specs.declared.Variable.TheVariants.{V0, V1, V2, V3}
 use Rattle.tables.specs.Settings.{setting}
 use Rattle.tables.specs.Tables.{value, table_of, cofactor, depends_on}
 use Rattle.tables.proofs.Every.{both, both_left, both_right}
-use Rattle.classes.specs.Orders.{orders}
-use Rattle.classes.specs.Images.{image, images, transform_at, representative}
-use Rattle.classes.specs.Owned.{member, owns}
-use Rattle.classes.proofs.Members.{class_list}
-use Rattle.classes.proofs.Variables.{truth}
+use Rattle.transforms.specs.Orders.{orders}
+use Rattle.transforms.specs.Images.{image, images, transform_at, representative}
+use Rattle.classes.specs.Owned.{owns}
+use Rattle.classes.specs.Members.{tables_of}
+use Rattle.classes.proofs.Members as members
+use Rattle.transforms.proofs.Variables.{truth}
 use Rattle.netlists.specs.declared.Row.{Row}
 use Rattle.codings.specs.declared.coding.Coding.{Coding}
 use Rattle.codings.specs.declared.coding.Coding.TheVariants.{And, AndXor, Majority, Every}
@@ -20,33 +22,22 @@ use Rattle.codings.specs.Codings.{coder, ownership_of, Shaped, Near}
 -- ---- the three classes
 
 abbrev conjunctions : List ℕ
-conjunctions =
-    0x000F ∷ 0x0033 ∷ 0x0055 ∷ 0x00AA ∷ 0x00CC ∷ 0x00F0 ∷ 0x0303 ∷ 0x0505 ∷ 0x0A0A ∷ 0x0C0C ∷ 0x0F00 ∷ 0x0FFF ∷ 0x1111 ∷ 0x2222 ∷
-    0x3030 ∷ 0x3300 ∷ 0x33FF ∷ 0x3F3F ∷ 0x4444 ∷ 0x5050 ∷ 0x5500 ∷ 0x55FF ∷ 0x5F5F ∷ 0x7777 ∷ 0x8888 ∷ 0xA0A0 ∷ 0xAA00 ∷ 0xAAFF ∷
-    0xAFAF ∷ 0xBBBB ∷ 0xC0C0 ∷ 0xCC00 ∷ 0xCCFF ∷ 0xCFCF ∷ 0xDDDD ∷ 0xEEEE ∷ 0xF000 ∷ 0xF0FF ∷ 0xF3F3 ∷ 0xF5F5 ∷ 0xFAFA ∷ 0xFCFC ∷
-    0xFF0F ∷ 0xFF33 ∷ 0xFF55 ∷ 0xFFAA ∷ 0xFFCC ∷ 0xFFF0 ∷ []
+conjunctions = tables_of 15
 
 abbrev exclusive_ors : List ℕ
-exclusive_ors =
-    0x0FF0 ∷ 0x33CC ∷ 0x3C3C ∷ 0x55AA ∷ 0x5A5A ∷ 0x6666 ∷ 0x9999 ∷ 0xA5A5 ∷ 0xAA55 ∷ 0xC3C3 ∷ 0xCC33 ∷ 0xF00F ∷ []
+exclusive_ors = tables_of 4080
 
 abbrev majorities : List ℕ
-majorities =
-    0x033F ∷ 0x055F ∷ 0x0AAF ∷ 0x0CCF ∷ 0x1177 ∷ 0x1717 ∷ 0x22BB ∷ 0x2B2B ∷ 0x30F3 ∷ 0x3F03 ∷ 0x44DD ∷ 0x4D4D ∷ 0x50F5 ∷ 0x5F05 ∷
-    0x7171 ∷ 0x7711 ∷ 0x88EE ∷ 0x8E8E ∷ 0xA0FA ∷ 0xAF0A ∷ 0xB2B2 ∷ 0xBB22 ∷ 0xC0FC ∷ 0xCF0C ∷ 0xD4D4 ∷ 0xDD44 ∷ 0xE8E8 ∷ 0xEE88 ∷
-    0xF330 ∷ 0xF550 ∷ 0xFAA0 ∷ 0xFCC0 ∷ []
+majorities = tables_of 831
 
 in_conjunctions : (f : ℕ) → f < 65536 → representative f ≡ 15 → member f conjunctions ≡ true
-unfolding representative images transform_at orders image value table_of bit from_bits member
-in_conjunctions f h e = class_list 15 conjunctions (member f conjunctions) f refl (lit< tt) refl tt tt h ∙ eq-eqb (representative f) 15 e
+in_conjunctions f h e = members.conjunctions f h ∙ eq-eqb (representative f) 15 e
 
 in_exclusive_ors : (f : ℕ) → f < 65536 → representative f ≡ 4080 → member f exclusive_ors ≡ true
-unfolding representative images transform_at orders image value table_of bit from_bits member
-in_exclusive_ors f h e = class_list 4080 exclusive_ors (member f exclusive_ors) f refl (lit< tt) refl tt tt h ∙ eq-eqb (representative f) 4080 e
+in_exclusive_ors f h e = members.exclusive_ors_lem f h ∙ eq-eqb (representative f) 4080 e
 
 in_majorities : (f : ℕ) → f < 65536 → representative f ≡ 831 → member f majorities ≡ true
-unfolding representative images transform_at orders image value table_of bit from_bits member
-in_majorities f h e = class_list 831 majorities (member f majorities) f refl (lit< tt) refl tt tt h ∙ eq-eqb (representative f) 831 e
+in_majorities f h e = members.majorities f h ∙ eq-eqb (representative f) 831 e
 
 -- ---- what a test of each table of a list says of its members
 
@@ -55,11 +46,10 @@ every_of g [] = true
 every_of g (x ∷ xs) = both (g x) (every_of g xs)
 
 of_member : (g : ℕ → Bool) (xs : List ℕ) → T (every_of g xs) → (f : ℕ) → member f xs ≡ true → g f ≡ true
-unfolding member
 of_member g [] t f e = absurd (both_ways false refl e)
 of_member g (x ∷ xs) t f e =
-    ⊎_elim (λ (h : eqb x f ≡ true). subst (λ (y : ℕ). g y ≡ true) (eqb-true x f h) (truth (g x) (both_left (g x) _ t)))
-    (λ (h : member f xs ≡ true). of_member g xs (both_right (g x) _ t) f h) (or_cases (eqb x f) (member f xs) e)
+    ⊎_elim (λ (h : eqb f x ≡ true). subst (λ (y : ℕ). g y ≡ true) (sym (eqb-true f x h)) (truth (g x) (both_left (g x) _ t)))
+    (λ (h : member f xs ≡ true). of_member g xs (both_right (g x) _ t) f h) (or_cases (eqb f x) (member f xs) e)
 
 abbrev implies : Bool → Bool → Bool
 implies a b = not a || b
@@ -81,15 +71,15 @@ abbrev on_three : (ℕ → Bool) → ℕ → Bool
 on_three is f = implies (plain f && implies (depends_on f V3) (depends_on f V2)) (is f && not (depends_on f V3))
 
 conjunctions_two : T (every_of (on_two is_and) conjunctions)
-unfolding depends_on cofactor value table_of bit from_bits
+unfolding tables_of images transform_at orders image depends_on cofactor value table_of bit from_bits
 conjunctions_two = tt
 
 exclusive_ors_two : T (every_of (on_two is_xor) exclusive_ors)
-unfolding depends_on cofactor value table_of bit from_bits
+unfolding tables_of images transform_at orders image depends_on cofactor value table_of bit from_bits
 exclusive_ors_two = tt
 
 majorities_three : T (every_of (on_three is_majority) majorities)
-unfolding depends_on cofactor value table_of bit from_bits
+unfolding tables_of images transform_at orders image depends_on cofactor value table_of bit from_bits
 majorities_three = tt
 
 -- ---- rows

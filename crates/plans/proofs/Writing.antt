@@ -7,13 +7,14 @@ use Rattle.tables.proofs.Support.{support_falls}
 use Rattle.classes.specs.declared.Ownership.{Ownership}
 use Rattle.rules.specs.declared.Rule.{Rule}
 use Rattle.rules.specs.Rules.{rule_of}
-use Rattle.rules.specs.Fits.{Divides}
-use Rattle.plans.specs.declared.Literal.{Literal}
-use Rattle.plans.specs.declared.Line.{Line}
-use Rattle.plans.specs.declared.Inputs.{Inputs}
-use Rattle.plans.specs.declared.lines.Lines.{Lines}
+use Rattle.rules.proofs.Firsts.{Divides}
+use Rattle.plan_lines.specs.declared.Literal.{Literal}
+use Rattle.plan_lines.specs.declared.Line.{Line}
+use Rattle.plan_lines.specs.declared.Inputs.{Inputs}
+use Rattle.plan_lines.specs.declared.lines.Lines.{Lines}
+use Rattle.plan_lines.specs.Memory.{listed}
 use Rattle.plans.specs.Plans.{Written, by_rule, write, bound}
-use Rattle.plans.specs.Held.{listed, Stored, Held}
+use Rattle.plans.specs.Held.{Stored, Held}
 
 -- ---- the room
 
@@ -46,17 +47,6 @@ pub part_of : (h p : ℕ) (v : Variable) (t : Bool) → Divides h v → p ≡ co
 part_of h p v t d e =
     let f : support_size p < support_size h = subst (λ (g : ℕ). support_size g < support_size h) (sym e) (support_falls h v t d.depends) in
     record { falls = f; room = bound_step (support_size p) (support_size h) f d.more }
-
--- the same of a part that the code has written, and of what it may still write, without a name for the part's table
-pub part_adds : (h p : ℕ) (v : Variable) (t : Bool) (n m : ℕ) → Divides h v → p ≡ cofactor h v t → m ≤ n + bound (support_size p)
-    → 3 + 2 * m ≤ bound (support_size h) + 2 * n
-part_adds h p v t n m d e few = let r = (part_of h p v t d e).room in omega (arith, few)
-
-pub part_falls : (h p : ℕ) (v : Variable) (t : Bool) → Divides h v → p ≡ cofactor h v t → support_size p < support_size h
-part_falls h p v t d e = (part_of h p v t d e).falls
-
-pub part_asks : (h p : ℕ) (v : Variable) (t : Bool) (n : ℕ) → Divides h v → p ≡ cofactor h v t → 2 * n + bound (support_size h) ≤ 45 → n + bound (support_size p) ≤ 21
-part_asks h p v t n d e few = let r = (part_of h p v t d e).room in omega (arith, few)
 
 -- ---- what is held
 

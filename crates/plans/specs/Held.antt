@@ -1,13 +1,10 @@
--- What the memory of a plan holds.
-use Rattle.std.specs.Prelude.{◌≡◌, ℕ, ◌+◌, List, ◌++◌, length, take}
-use Rattle.plans.specs.declared.Literal.{Literal}
-use Rattle.plans.specs.declared.Line.{Line}
-use Rattle.plans.specs.declared.lines.Lines.{Lines}
+-- What the memory of a plan holds while the plan is written.
+use Rattle.std.specs.Prelude.{◌≡◌, ℕ, ◌+◌, List, ◌++◌, length}
+use Rattle.plan_lines.specs.declared.Literal.{Literal}
+use Rattle.plan_lines.specs.declared.Line.{Line}
+use Rattle.plan_lines.specs.declared.lines.Lines.{Lines}
+use Rattle.plan_lines.specs.Memory.{listed}
 use Rattle.plans.specs.Plans.{Written}
-
--- the lines that are held
-abbrev pub listed : Lines → List Line
-listed m = take m.count m.items
 
 -- it holds base, of n lines, and then ls
 pub record Stored (m : Lines) (base : List Line) (n : ℕ) (ls : List Line) : Type 0 where

@@ -1,143 +1,96 @@
-// The recursive writer of plans.
-ghost use Rattle.std.specs.Prelude.{◌≡◌, ℕ, ◌+◌, ◌<◌, ◌≤◌, List, length};
-ghost use Rattle.tables.specs.Settings.{Setting};
-ghost use Rattle.tables.specs.Tables.{value, support_size};
-ghost use Rattle.plans.specs.Plans.{write, exclusive, bound, input, inputs, plan_of, plan_value, EachOwned};
-ghost use Rattle.plans.specs.Held.{Held, Stored, listed};
+// The recursive writer: each table by its rule, the lines of a part before the line that reads it.
+ghost use Rattle.std.specs.Prelude.{◌≡◌, ℕ, ◌+◌, ◌<◌, ◌≤◌, List};
+ghost use Rattle.tables.specs.Tables.{cofactor, support_size};
+ghost use Rattle.plan_lines.specs.Memory.{most_lines, listed};
+ghost use Rattle.plans.specs.Plans.{top_of, either, xor_lines, write, bound};
+ghost use Rattle.plans.specs.Held.{Held, Stored};
 
-use crate::lines::{Lines, NOTHING, two_of, whole_line};
-use crate::{Inputs, Line, Literal, Source};
-use classes::search::classify;
-use classes::{Ownership, Transform};
-use rules::{Rule, choose_rule};
+use classes::Ownership;
+use plan_lines::lines::Lines;
+use plan_lines::{AND, Inputs, Line, Literal, OR, XOR};
+use rules::{Gate, Rule, choose_rule};
 use tables::{Table, Variable, high_cofactor, low_cofactor};
 
-const AND: Table = 0x8888;
+// The cofactor of `v` on one side.
+fn cofactor_at(h: Table, v: Variable, high: bool) -> Table
+    ensures { result ≡ cofactor h v high }
+{
+    if high {
+        high_cofactor(h, v)
+    } else {
+        low_cofactor(h, v)
+    }
+}
 
-const OR: Table = 0xEEEE;
+// The AND or the OR of what a variable stands for and a part, which is the high cofactor or the low one.
+fn top_line(gate: Gate, high: bool, p: Literal, part: Literal) -> Line
+    ensures { result ≡ top_of gate high p part }
+{
+    match gate {
+        Gate::And => Line::of_two(AND, p.invert_if(!high), part),
+        Gate::Or => Line::of_two(OR, p.invert_if(high), part),
+    }
+}
 
-const XOR: Table = 0x6666;
+// Two lines and their OR; its answer.
+fn write_or(one: Line, other: Line, lines: &mut Lines) -> Literal
+    requires { lines.old.count + 3 ≤ most_lines }
+    ensures count { lines.new.count ≡ lines.old.count + 3 }
+    ensures held { (base : List Line) (n : ℕ) (ls : List Line) → Stored lines.old base n ls
+        → Held lines.new result base n (either n ls one other) }
+{
+    let p = lines.push(one);
+    let q = lines.push(other);
+    lines.push(Line::of_two(OR, p, q))
+}
 
 // The exclusive-or of two literals: one line where it is owned, else three.
-fn write_exclusive(own: Ownership, p: Literal, q: Literal, lines: &mut Lines) -> Literal
-    requires { lines.old.count + 3 ≤ 21 }
+fn write_xor(own: Ownership, p: Literal, q: Literal, lines: &mut Lines) -> Literal
+    requires { lines.old.count + 3 ≤ most_lines }
     ensures few { lines.new.count ≤ lines.old.count + 3 }
-    ensures held { (base : List Line) (n : ℕ) (ls : List Line) → Stored lines.old base n ls → Held lines.new result base n (exclusive own n ls p q) }
+    ensures held { (base : List Line) (n : ℕ) (ls : List Line) → Stored lines.old base n ls
+        → Held lines.new result base n (xor_lines own n ls p q) }
 {
     if own.xor {
-        lines.push(two_of(XOR, p, q))
+        lines.push(Line::of_two(XOR, p, q))
     } else {
-        lines.push_either(two_of(AND, p, q.turn(true)), two_of(AND, p.turn(true), q))
+        write_or(
+            Line::of_two(AND, p, q.invert_if(true)),
+            Line::of_two(AND, p.invert_if(true), q),
+            lines,
+        )
     }
 }
 
 // Writes a table behind the lines that are there; its result.
-fn write_table(h: Table, own: Ownership, inputs: Inputs, lines: &mut Lines) -> Literal
-    requires { lines.old.count + bound (support_size h) ≤ 21 }
+pub(crate) fn write_table(h: Table, own: Ownership, inputs: Inputs, lines: &mut Lines) -> Literal
+    requires { lines.old.count + bound (support_size h) ≤ most_lines }
     ensures few { lines.new.count ≤ lines.old.count + bound (support_size h) }
-    ensures held { (k : ℕ) → support_size h < k → Held lines.new result (listed lines.old) lines.old.count (write k own inputs lines.old.count h) }
+    ensures held { (k : ℕ) → support_size h < k
+        → Held lines.new result (listed lines.old) lines.old.count
+        (write k own inputs lines.old.count h) }
 {
     match choose_rule(own, h) {
-        Rule::Constant(b) => NOTHING.turn(b),
-        Rule::Single(v, inverse) => inputs.of(v).turn(inverse),
-        Rule::Whole => lines.push(whole_line(h, inputs)),
-        Rule::AndLow(v) => {
+        Rule::Constant(b) => Literal::FALSE.invert_if(b),
+        Rule::Single(v, inverse) => inputs.of(v).invert_if(inverse),
+        Rule::OneLine(_) => lines.push(Line::of_table(h, inputs)),
+        Rule::Top(gate, v, high) => {
+            let part = write_table(cofactor_at(h, v, high), own, inputs, lines);
+            lines.push(top_line(gate, high, inputs.of(v), part))
+        }
+        Rule::Xor(v) => {
             let part = write_table(low_cofactor(h, v), own, inputs, lines);
-            lines.push(two_of(AND, inputs.of(v).turn(true), part))
+            write_xor(own, inputs.of(v), part, lines)
         }
-        Rule::AndHigh(v) => {
-            let part = write_table(high_cofactor(h, v), own, inputs, lines);
-            lines.push(two_of(AND, inputs.of(v), part))
-        }
-        Rule::OrLow(v) => {
-            let part = write_table(low_cofactor(h, v), own, inputs, lines);
-            lines.push(two_of(OR, inputs.of(v), part))
-        }
-        Rule::OrHigh(v) => {
-            let part = write_table(high_cofactor(h, v), own, inputs, lines);
-            lines.push(two_of(OR, inputs.of(v).turn(true), part))
-        }
-        Rule::Exclusive(v) => {
-            let part = write_table(low_cofactor(h, v), own, inputs, lines);
-            write_exclusive(own, inputs.of(v), part, lines)
-        }
-        Rule::Split(v) => {
+        Rule::Shannon(v) => {
             let high = write_table(high_cofactor(h, v), own, inputs, lines);
             let low = write_table(low_cofactor(h, v), own, inputs, lines);
             let p = inputs.of(v);
-            lines.push_either(two_of(AND, p, high), two_of(AND, p.turn(true), low))
+            write_or(
+                Line::of_two(AND, p, high),
+                Line::of_two(AND, p.invert_if(true), low),
+                lines,
+            )
         }
-    }
-}
-
-/// The plan of a table: place calls over its four signals, and the literal that then has the table's value.
-#[derive(Clone, Copy)]
-pub struct Plan {
-    lines: Lines,
-    result: Literal,
-    ghost few: { lines.count ≤ 21 },
-}
-
-// What variable `v` of the representative stands for.
-fn input_of(t: Transform, v: Variable) -> Literal
-    ensures { result ≡ input t v }
-{
-    let k = t.order().place_of(v);
-    Literal {
-        source: Source::Input(k),
-        inverted: t.inverts(k),
-    }
-}
-
-fn inputs_of(t: Transform) -> Inputs
-    ensures { result ≡ inputs t }
-{
-    Inputs {
-        a: input_of(t, Variable::V0),
-        b: input_of(t, Variable::V1),
-        c: input_of(t, Variable::V2),
-        d: input_of(t, Variable::V3),
-    }
-}
-
-/// The plan of a table for the classes that are owned.
-pub fn plan_table(own: Ownership, f: Table) -> Plan
-    ensures lines { listed result.lines ≡ (plan_of own f).lines }
-    ensures result { result.result ≡ (plan_of own f).result }
-    ensures value { (y : Setting) → plan_value y (record { lines = listed result.lines; result = result.result }) ≡ value f y }
-    ensures few { length (listed result.lines) ≤ bound (support_size f) }
-    ensures most { length (listed result.lines) ≤ 21 }
-    ensures owned { EachOwned own (listed result.lines) }
-{
-    let class = classify(f);
-    let t = class.transform;
-    let mut lines = Lines::new();
-    let result = write_table(class.representative, own, inputs_of(t), &mut lines);
-    Plan {
-        lines,
-        result: result.turn(t.output()),
-    }
-}
-
-impl Plan {
-    /// The lines, in order.
-    pub fn lines(&self) -> &[Line]
-        ensures { result.now ≡ listed self.now.lines }
-    {
-        self.lines.as_slice()
-    }
-
-    /// How many lines it has.
-    pub fn len(&self) -> usize
-        ensures { result ≡ length (listed self.now.lines) }
-    {
-        self.lines().len()
-    }
-
-    /// The literal that has the table's value after the lines.
-    pub fn result(&self) -> Literal
-        ensures { result ≡ self.now.result }
-    {
-        self.result
     }
 }

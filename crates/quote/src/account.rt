@@ -1,8 +1,8 @@
 // The account of a table: its class, the transform, and the plan of each kind of network.
 use crate::kinds::{KINDS, Kind};
 use crate::names::{Connection, Gate, Signal};
-use classes::search::classify;
-use plans::writer::plan_table;
+use classifier::classify;
+use plans::plan_table;
 use std::io;
 use tables::{Table, Variable};
 

@@ -2,10 +2,10 @@
 ghost use Rattle.std.specs.Prelude.{◌≡◌};
 ghost use Rattle.quote.specs.Names.{signal_name, operation_of};
 
-use classes::Transform;
 use plans::{Line, Literal, Source};
 use std::fmt;
 use tables::{Table, Variable};
+use transforms::Transform;
 
 // The name of a signal of the table.
 fn signal_name(v: Variable) -> char
@@ -116,7 +116,7 @@ impl fmt::Display for Connection {
     fn fmt<W: fmt::Write>(&self, f: &mut fmt::Formatter<W>) -> fmt::Result {
         let name = signal_name(self.signal);
         let mark = mark(self.transform.inverts(self.signal));
-        let number = variable_number(self.transform.order().place(self.signal));
+        let number = variable_number(self.transform.order().at(self.signal));
         write!(f, "{name} = {mark}x{number}")
     }
 }

@@ -6,9 +6,9 @@
 mod plain;
 
 use classes::Ownership;
-use classes::search::classify;
+use classifier::classify;
 use plain::least_image;
-use plans::writer::plan_table;
+use plans::plan_table;
 use std::rt::{Clock, Env};
 use std::time::Instant;
 use std::{env, io};

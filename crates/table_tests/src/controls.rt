@@ -2,8 +2,8 @@
 use crate::compare::Count;
 use crate::runs::asked;
 use crate::seen::{seen_class, seen_plan};
-use classes::search::classify;
-use plans::writer::plan_table;
+use classifier::classify;
+use plans::plan_table;
 use reference::plans::{Plan, write_plan};
 use reference::tables::{Atlas, Class, Order, Owned};
 use std::alloc::{AllocError, Global};

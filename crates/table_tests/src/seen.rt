@@ -1,11 +1,10 @@
 //! What the library answers, in the plain types of the reference.
-use classes::Transform;
-use classes::search::Class;
-use plans::writer::Plan;
-use plans::{Line, Literal, Source};
+use classifier::Class;
+use plans::{Line, Literal, Plan, Source};
 use reference::{plans as plain, tables as table};
 use std::alloc::{AllocError, Global};
 use tables::Variable;
+use transforms::Transform;
 
 fn variable_number(v: Variable) -> u16 {
     match v {
@@ -19,10 +18,10 @@ fn variable_number(v: Variable) -> u16 {
 fn seen_order(transform: Transform) -> table::Order {
     let order = transform.order();
     table::Order {
-        a: variable_number(order.place(Variable::V0)),
-        b: variable_number(order.place(Variable::V1)),
-        c: variable_number(order.place(Variable::V2)),
-        d: variable_number(order.place(Variable::V3)),
+        a: variable_number(order.at(Variable::V0)),
+        b: variable_number(order.at(Variable::V1)),
+        c: variable_number(order.at(Variable::V2)),
+        d: variable_number(order.at(Variable::V3)),
     }
 }
 

@@ -1,3 +1,4 @@
+pub mod Lists
 pub mod Bits
 pub mod Settings
 pub mod Tables

@@ -1,9 +1,9 @@
 -- A table is a number below 65536: bit i is its value at the setting of index i.
-use Rattle.std.specs.Prelude.{ℕ, ◌+◌, Bool, true, false, cond, not, map, Some, None, Option, ◌==◌}
+use Rattle.std.specs.Prelude.{ℕ, ◌+◌, ◌*◌, ◌%◌, ◌^◌, Bool, true, false, cond, not, map, Some, None, Option, ◌==◌}
 use Rattle.tables.specs.declared.Variable.{Variable}
 use Rattle.tables.specs.declared.Variable.TheVariants.{V0, V1, V2, V3}
 use Rattle.tables.specs.Bits.{bit, from_bits}
-use Rattle.tables.specs.Settings.{Setting, get, put, index, settings}
+use Rattle.tables.specs.Settings.{Setting, get, put, index, settings, span_of}
 
 -- the value of f at a setting
 unfoldable pub value : ℕ → Setting → Bool
@@ -44,6 +44,10 @@ support_size f = cond (depends_on f V0) 1 0 + cond (depends_on f V1) 1 0 + cond 
 -- f with v inverted
 unfoldable pub flipped : ℕ → Variable → ℕ
 flipped f v = table_of (λ x. value f (put x v (not (get x v))))
+
+-- f with each value at the index a span of v higher
+abbrev pub moved_up : ℕ → Variable → ℕ
+moved_up f v = (f * 2 ^ span_of v) % 65536
 
 -- f at four tables in the place of its variables
 unfoldable pub composed : ℕ → ℕ → ℕ → ℕ → ℕ → ℕ

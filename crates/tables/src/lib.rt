@@ -4,9 +4,9 @@
 ghost use Rattle.std.specs.Prelude.{◌≡◌, ◌+◌, ◌^◌, ◌<◌, ◌≤◌, true, false, if◌then◌else◌};
 ghost use Rattle.tables.specs.Bits.{bit};
 ghost use Rattle.tables.specs.Settings.{Setting, span_of};
-ghost use Rattle.tables.specs.Tables.{value, variable, complement, chosen, cofactor, depends_on, lowest, flipped, composed};
+ghost use Rattle.tables.specs.Tables.{value, variable, complement, chosen, cofactor, depends_on, lowest, flipped, moved_up, composed};
 
-/// A function of four variables: bit i is its value where variable k equals bit k of i.
+/// A function of four variables: bit `i` is the value at the setting that gives each variable `k` bit `k` of `i`.
 pub type Table = u16;
 
 /// One of the four variables of a table.
@@ -61,25 +61,41 @@ fn span(v: Variable) -> u32
     }
 }
 
+// Each value moved up by the span of `v`: where `v` is 1, the value with `v` at 0.
+fn move_up(f: Table, v: Variable) -> Table
+    ensures moved { result ≡ moved_up f v }
+    ensures low { chosen (variable v) result f ≡ cofactor f v false }
+{
+    f << span(v)
+}
+
+// Each value moved down by the span of `v`: where `v` is 0, the value with `v` at 1.
+fn move_down(f: Table, v: Variable) -> Table
+    ensures high { chosen (variable v) f result ≡ cofactor f v true }
+    ensures both { chosen (variable v) (moved_up f v) result ≡ flipped f v }
+{
+    f >> span(v)
+}
+
 /// The table with `v` fixed at 0.
 pub fn low_cofactor(f: Table, v: Variable) -> Table
     ensures { result ≡ cofactor f v false }
 {
-    choose(variable_table(v), f << span(v), f)
+    choose(variable_table(v), move_up(f, v), f)
 }
 
 /// The table with `v` fixed at 1.
 pub fn high_cofactor(f: Table, v: Variable) -> Table
     ensures { result ≡ cofactor f v true }
 {
-    choose(variable_table(v), f, f >> span(v))
+    choose(variable_table(v), f, move_down(f, v))
 }
 
 /// The table with `v` inverted.
 pub fn flip_variable(f: Table, v: Variable) -> Table
     ensures { result ≡ flipped f v }
 {
-    choose(variable_table(v), f << span(v), f >> span(v))
+    choose(variable_table(v), move_up(f, v), move_down(f, v))
 }
 
 /// Whether `v` is in the support.

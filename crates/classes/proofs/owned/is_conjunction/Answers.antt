@@ -1,13 +1,17 @@
-use Rattle.std.proofs.Common.{refl, arith, lit<}
+-- The list of the code is the one that is computed.
+use Rattle.std.proofs.Common.{eqb, ◌∙◌, arith}
+use Rattle.std.proofs.lemmas.List.Elements.{contains_decides}
 use Rattle.tables.specs.Bits.{bit, from_bits}
 use Rattle.tables.specs.Tables.{value, table_of}
-use Rattle.classes.specs.Orders.{orders}
-use Rattle.classes.specs.Images.{image, images, transform_at, representative}
-use Rattle.classes.specs.Owned.{member}
-use Rattle.classes.proofs.Members.{class_list}
+use Rattle.transforms.specs.Orders.{orders}
+use Rattle.transforms.specs.Images.{image, images, transform_at}
+use Rattle.classes.specs.Members.{tables_of}
+use Rattle.classes.proofs.Members.{contained, conjunctions}
 use Rattle.classes.proofs.owned.is_conjunction.Goals as goal
+use Rattle.std.proofs.lemmas.Bool.Decides.{Decides-eqb}
 
 pub returns : goal.returns
+unfolding tables_of images transform_at orders image value table_of bit from_bits
 returns c =
-    class_list 15 _ c.is_listed.result c.args.f c.is_listed.ensures (lit< tt) (unfold representative images transform_at orders image value table_of bit from_bits member in refl)
-    (unfold representative images transform_at orders image value table_of bit from_bits member in tt) (unfold representative images transform_at orders image value table_of bit from_bits member in tt) (omega arith)
+    contained (tables_of 15) c.args.f c.contains.result (contains_decides eqb Decides-eqb (tables_of 15) c.args.f c.contains.result c.contains.ensures.cases)
+    ∙ conjunctions c.args.f (omega arith)
