@@ -1,6 +1,2 @@
-pub mod Variables
-pub mod Orderings
-pub mod Transforms
-pub mod Least
 pub mod Members
-pub mod Supports
+pub mod Normal

@@ -1,4 +1,3 @@
-pub mod Orders
-pub mod Images
-pub mod Search
 pub mod Owned
+pub mod Members
+pub mod Normal

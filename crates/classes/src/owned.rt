@@ -1,7 +1,10 @@
 // Which tables belong to the classes that kinds of network own.
 ghost use Rattle.std.specs.Prelude.{◌≡◌, ◌==◌};
-ghost use Rattle.classes.specs.Images.{representative};
-ghost use Rattle.classes.specs.Owned.{member, owns};
+ghost use Rattle.transforms.specs.Images.{representative};
+ghost use Rattle.classes.specs.declared.Ownership.{Ownership};
+ghost use Rattle.classes.specs.Owned.{class_number, owns};
+ghost use Rattle.classes.specs.Members.{tables_of};
+ghost use Rattle.classes.specs.Normal.{NormalTable, normal_class, owns_named};
 
 use crate::Ownership;
 use tables::Table;
@@ -26,45 +29,71 @@ const MAJORITIES: [Table; 32] = [
     0xD4D4, 0xDD44, 0xE8E8, 0xEE88, 0xF330, 0xF550, 0xFAA0, 0xFCC0,
 ];
 
-// Whether a table is among some others.
-fn is_listed(tables: &[Table], f: Table) -> bool
-    ensures { result ≡ member f tables.now }
-{
-    for g in tables {
-        if *g == f {
-            return true;
+/// The classes that some kinds of network own and others do not, and class 15.
+#[derive(Clone, Copy, PartialEq, Eq, Debug)]
+pub enum NamedClass {
+    /// Class 15: the AND of two variables.
+    Conjunction,
+    /// Class 4080: the exclusive-or of two variables.
+    ExclusiveOr,
+    /// Class 831: the majority of three variables.
+    Majority,
+}
+
+impl NamedClass {
+    // The tables of the class.
+    fn tables(self) -> &'static [Table]
+        ensures { result.now ≡ tables_of (class_number self) }
+    {
+        match self {
+            NamedClass::Conjunction => &CONJUNCTIONS,
+            NamedClass::ExclusiveOr => &EXCLUSIVE_ORS,
+            NamedClass::Majority => &MAJORITIES,
         }
     }
-    false
-}
 
-/// Whether a table is in class 15.
-pub fn is_conjunction(f: Table) -> bool
-    ensures { result ≡ (representative f == 15) }
-{
-    is_listed(&CONJUNCTIONS, f)
-}
-
-/// Whether a table is in class 4080.
-pub fn is_exclusive_or(f: Table) -> bool
-    ensures { result ≡ (representative f == 4080) }
-{
-    is_listed(&EXCLUSIVE_ORS, f)
-}
-
-/// Whether a table is in class 831.
-pub fn is_majority(f: Table) -> bool
-    ensures { result ≡ (representative f == 831) }
-{
-    is_listed(&MAJORITIES, f)
+    /// Whether a table is in the class.
+    pub fn has(self, f: Table) -> bool
+        ensures { result ≡ (representative f == class_number self) }
+    {
+        self.tables().contains(&f)
+    }
 }
 
 /// Whether the class of a table is owned.
+#[tactic(auto, unfolding(crate::specs::Owned::owns))]
 pub fn is_owned(own: Ownership, f: Table) -> bool
     ensures { result ≡ owns own f }
 {
     own.every
-        || is_conjunction(f)
-        || (own.xor && is_exclusive_or(f))
-        || (own.majority && is_majority(f))
+        || NamedClass::Conjunction.has(f)
+        || (own.xor && NamedClass::ExclusiveOr.has(f))
+        || (own.majority && NamedClass::Majority.has(f))
+}
+
+// The class of the table of a row in normal form, if it has a name.
+fn normal_class(f: Table) -> Option<NamedClass>
+    ensures class { result ≡ normal_class f }
+    ensures owned { (own : Ownership) → NormalTable f → owns own f ≡ owns_named own result }
+{
+    match f {
+        0x8888 | 0x2222 | 0x4444 | 0xEEEE => Some(NamedClass::Conjunction),
+        0x6666 => Some(NamedClass::ExclusiveOr),
+        0xE8E8 | 0xD4D4 | 0xB2B2 | 0x8E8E => Some(NamedClass::Majority),
+        _ => None,
+    }
+}
+
+/// Whether the class of the table of a row in normal form is owned, by a look at the table alone.
+/// Any other table counts as one of no named class.
+pub fn owns_normal(own: Ownership, f: Table) -> bool
+    ensures named { result ≡ owns_named own (normal_class f) }
+    ensures owned { NormalTable f → result ≡ owns own f }
+{
+    match normal_class(f) {
+        Some(NamedClass::Conjunction) => true,
+        Some(NamedClass::ExclusiveOr) => own.every || own.xor,
+        Some(NamedClass::Majority) => own.every || own.majority,
+        None => own.every,
+    }
 }

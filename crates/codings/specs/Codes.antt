@@ -1,103 +1,80 @@
 -- The four codings. A word of the first three holds a node below 1024, and the first of them also the number of the table.
-use Rattle.std.specs.Prelude.{ℕ, ◌+◌, ◌*◌, ◌/◌, ◌%◌, Bool, true, cond, ◌&&◌, ◌||◌, ◌==◌, nat_lt}
+use Rattle.std.specs.Prelude.{ℕ, ◌+◌, ◌*◌, ◌/◌, ◌%◌, Bool, true, cond, ◌&&◌, List, [], ◌∷◌, take, position, is_some, ◌==◌, nat_lt, slice_index_or}
+use Rattle.std.specs.Option.{unwrap_or}
 use Rattle.netlists.specs.declared.Node.{Node}
 use Rattle.netlists.specs.declared.Row.{Row}
-use Rattle.codings.specs.declared.coded.Coded.{Coded}
 use Rattle.codings.specs.Coders.{Coder}
 
 -- ---- tables by number
 
--- of two variables, 0 at index 0: an AND with any inputs inverted, or an OR
-abbrev pub is_and : ℕ → Bool
-is_and t = t == 0x8888 || t == 0x2222 || t == 0x4444 || t == 0xEEEE
+-- the tables over two nodes, 0 at index 0: an AND with one input inverted or none, or an OR
+abbrev pub and_tables : List ℕ
+and_tables = 0x8888 ∷ 0x2222 ∷ 0x4444 ∷ 0xEEEE ∷ []
 
-abbrev pub is_xor : ℕ → Bool
-is_xor t = t == 0x6666
+-- and the exclusive-or
+abbrev pub and_xor_tables : List ℕ
+and_xor_tables = 0x8888 ∷ 0x2222 ∷ 0x4444 ∷ 0xEEEE ∷ 0x6666 ∷ []
 
--- of three variables, 0 at index 0: the majority, with at most one input inverted
-abbrev pub is_majority : ℕ → Bool
-is_majority t = t == 0xE8E8 || t == 0xD4D4 || t == 0xB2B2 || t == 0x8E8E
+-- and over three nodes, 0 at index 0: the majority, with one input inverted or none
+abbrev pub majority_tables : List ℕ
+majority_tables = 0x8888 ∷ 0x2222 ∷ 0x4444 ∷ 0xEEEE ∷ 0xE8E8 ∷ 0xD4D4 ∷ 0xB2B2 ∷ 0x8E8E ∷ []
 
-abbrev pub pair_number : ℕ → ℕ
-pair_number t = cond (t == 0x8888) 0 (cond (t == 0x2222) 1 (cond (t == 0x4444) 2 (cond (t == 0xEEEE) 3 4)))
+-- where a table stands in a list, or 0 where it does not
+abbrev pub number_in : List ℕ → ℕ → ℕ
+number_in ts t = unwrap_or (position (λ x. x == t) ts) 0
 
-abbrev pub pair_table : ℕ → ℕ
-pair_table n = cond (n == 0) 0x8888 (cond (n == 1) 0x2222 (cond (n == 2) 0x4444 (cond (n == 3) 0xEEEE 0x6666)))
-
-abbrev pub triple_number : ℕ → ℕ
-triple_number t = cond (t == 0xE8E8) 4 (cond (t == 0xD4D4) 5 (cond (t == 0xB2B2) 6 (cond (t == 0x8E8E) 7 (pair_number t))))
-
-abbrev pub triple_table : ℕ → ℕ
-triple_table n = cond (n == 4) 0xE8E8 (cond (n == 5) 0xD4D4 (cond (n == 6) 0xB2B2 (cond (n == 7) 0x8E8E (pair_table n))))
-
--- ---- nodes in words
-
-abbrev pub small : Node → Bool
-small n = nat_lt n.number 1024
-
-abbrev pub unused : Node → Bool
-unused n = n.number == 0
-
-abbrev pub node_in : ℕ → Node
-node_in w = record { number = w % 1024 }
-
-abbrev none : Node
-none = record { number = 0 }
+abbrev pub table_in : List ℕ → ℕ → ℕ
+table_in ts n = slice_index_or ts n 0
 
 -- ---- rows
 
-abbrev pub pair_encode : Row → Coded
-pair_encode r = record {
-  first = r.a.number % 1024 + 1024 * pair_number r.table;
-  second = r.b.number % 1024;
-  third = 0;
-  fourth = 0;
-  fifth = 0;
-}
+abbrev pub node_in : List ℕ → ℕ → Node
+node_in ws k = record { number = slice_index_or ws k 0 % 1024 }
 
-abbrev pub pair_decode : Coded → Row
-pair_decode w = record { table = pair_table (w.first / 1024); a = node_in w.first; b = node_in w.second; c = none; d = none }
+abbrev pub near_encode : ℕ → List ℕ → Row → List ℕ
+near_encode width ts r =
+    take width ((r.nodes.a.number % 1024 + 1024 * number_in ts r.table) ∷ (r.nodes.b.number % 1024) ∷ (r.nodes.c.number % 1024) ∷ (r.nodes.d.number % 1024) ∷ [])
 
-abbrev pub triple_encode : Row → Coded
-triple_encode r = record {
-  first = r.a.number % 1024 + 1024 * triple_number r.table;
-  second = r.b.number % 1024;
-  third = r.c.number % 1024;
-  fourth = 0;
-  fifth = 0;
-}
+abbrev pub near_decode : List ℕ → List ℕ → Row
+near_decode ts ws = record { table = table_in ts (slice_index_or ws 0 0 / 1024); nodes = record { a = node_in ws 0; b = node_in ws 1; c = node_in ws 2; d = node_in ws 3 } }
 
-abbrev pub triple_decode : Coded → Row
-triple_decode w = record { table = triple_table (w.first / 1024); a = node_in w.first; b = node_in w.second; c = node_in w.third; d = none }
+-- node k of a row has a word of its own and fits into it, or is not used
+abbrev pub near_node : ℕ → ℕ → Node → Bool
+near_node width k n = cond (nat_lt k width) (nat_lt n.number 1024) (n.number == 0)
 
-abbrev pub table_encode : Row → Coded
-table_encode r = record { first = r.table; second = r.a.number; third = r.b.number; fourth = r.c.number; fifth = r.d.number }
+abbrev pub near_nodes : ℕ → Row → Bool
+near_nodes width r = near_node width 0 r.nodes.a && near_node width 1 r.nodes.b && near_node width 2 r.nodes.c && near_node width 3 r.nodes.d
 
-abbrev pub table_decode : Coded → Row
-table_decode w = record {
-  table = w.first;
-  a = record { number = w.second };
-  b = record { number = w.third };
-  c = record { number = w.fourth };
-  d = record { number = w.fifth };
+abbrev pub near_coder : ℕ → List ℕ → Coder
+near_coder width ts = record {
+  codes = λ r. near_nodes width r && is_some (position (λ x. x == r.table) ts);
+  encode = near_encode width ts;
+  decode = near_decode ts;
 }
 
 -- ---- the codings
 
-abbrev pub pair_nodes : Row → Bool
-pair_nodes r = small r.a && small r.b && unused r.c && unused r.d
-
-abbrev pub triple_nodes : Row → Bool
-triple_nodes r = small r.a && small r.b && small r.c && unused r.d
-
 abbrev pub and_coder : Coder
-and_coder = record { width = 2; codes = λ r. pair_nodes r && is_and r.table; encode = pair_encode; decode = pair_decode }
+and_coder = near_coder 2 and_tables
 
 abbrev pub and_xor_coder : Coder
-and_xor_coder = record { width = 2; codes = λ r. pair_nodes r && (is_and r.table || is_xor r.table); encode = pair_encode; decode = pair_decode }
+and_xor_coder = near_coder 2 and_xor_tables
 
 abbrev pub majority_coder : Coder
-majority_coder = record { width = 3; codes = λ r. triple_nodes r && (is_and r.table || is_majority r.table); encode = triple_encode; decode = triple_decode }
+majority_coder = near_coder 3 majority_tables
 
+-- the table and the nodes
 abbrev pub every_coder : Coder
-every_coder = record { width = 5; codes = λ _. true; encode = table_encode; decode = table_decode }
+every_coder = record {
+  codes = λ _. true;
+  encode = λ r. r.table ∷ r.nodes.a.number ∷ r.nodes.b.number ∷ r.nodes.c.number ∷ r.nodes.d.number ∷ [];
+  decode = λ ws. record {
+    table = slice_index_or ws 0 0;
+    nodes = record {
+      a = record { number = slice_index_or ws 1 0 };
+      b = record { number = slice_index_or ws 2 0 };
+      c = record { number = slice_index_or ws 3 0 };
+      d = record { number = slice_index_or ws 4 0 };
+    };
+  };
+}

@@ -1,3 +1,5 @@
 pub mod Coders
 pub mod Codes
-pub mod Codings
+pub mod Back
+pub mod Owned
+pub mod Laws

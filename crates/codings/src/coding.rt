@@ -1,67 +1,36 @@
-//! The four codings.
+//! What a coding of rows is.
 ghost use Rattle.std.specs.Prelude.{◌≡◌, true};
-ghost use Rattle.codings.specs.Codings.{coder, ownership_of};
+ghost use Rattle.classes.specs.declared.Ownership.{Ownership};
+ghost use Rattle.netlists.specs.declared.Row.{Row};
+ghost use Rattle.netlists.specs.Lawful.{LawfulRow};
+ghost use Rattle.codings.specs.Coders.{Coder, Lawful};
 
-use crate::coded::Coded;
-use crate::packing;
 use classes::Ownership;
 use netlists::Row;
 
-/// A coding of rows in a few words. A row that it codes comes back as it was, so two such rows have the same words
-/// exactly where they are equal; other rows have some words too, and come back as other rows.
-#[derive(Clone, Copy, PartialEq, Eq, Debug)]
-pub enum Coding {
-    /// AND tables over two nodes, in two words.
-    And,
-    /// AND and exclusive-or tables over two nodes, in two words.
-    AndXor,
-    /// AND tables over two nodes and majority tables over three, in three words.
-    Majority,
-    /// Every table over four nodes, in five words.
-    Every,
-}
+/// A coding of rows in `W` words. A row that it codes comes back as it was, so two such rows have the same words exactly
+/// where they are equal; other rows have some words too, and come back as other rows.
+pub trait Coding<const W: usize> {
+    ghost coder: { Coder };
 
-impl Coding {
+    ghost ownership: { Ownership };
+
     /// The words of a row.
-    pub fn width(self) -> usize
-        ensures { result ≡ (coder self).width }
-    {
-        match self {
-            Coding::And | Coding::AndXor => 2,
-            Coding::Majority => 3,
-            Coding::Every => 5,
-        }
-    }
+    fn encode(row: Row) -> [u16; W]
+        ensures words { result ≡ coder.encode row }
+        ensures back { coder.codes row ≡ true → coder.decode result ≡ row };
+
+    /// The row that some words are of.
+    fn decode(words: &[u16; W]) -> Row
+        ensures { result ≡ coder.decode words.now };
 
     /// The classes that the rows' tables are of.
-    pub fn ownership(self) -> Ownership
-        ensures { result ≡ ownership_of self }
-    {
-        Ownership {
-            xor: matches!(self, Coding::AndXor | Coding::Every),
-            majority: matches!(self, Coding::Majority | Coding::Every),
-            every: matches!(self, Coding::Every),
-        }
-    }
+    fn ownership() -> Ownership
+        ensures { result ≡ ownership };
 
-    pub fn encode(self, row: Row) -> Coded
-        ensures words { result ≡ (coder self).encode row }
-        ensures back { (coder self).codes row ≡ true → (coder self).decode result ≡ row }
-    {
-        match self {
-            Coding::And | Coding::AndXor => packing::encode_pair(row),
-            Coding::Majority => packing::encode_triple(row),
-            Coding::Every => packing::encode_table(row),
-        }
-    }
+    // A row that is coded comes back from its words, which are two to five.
+    ghost lawful: { Lawful W coder };
 
-    pub fn decode(self, words: Coded) -> Row
-        ensures { result ≡ (coder self).decode words }
-    {
-        match self {
-            Coding::And | Coding::AndXor => packing::decode_pair(words),
-            Coding::Majority => packing::decode_triple(words),
-            Coding::Every => packing::decode_table(words),
-        }
-    }
+    // A row that a network of these classes may hold is coded.
+    ghost owned_coded: { (r : Row) → LawfulRow ownership 1024 r → coder.codes r ≡ true };
 }

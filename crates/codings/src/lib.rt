@@ -1,9 +1,13 @@
 // How a row of a network is written as 16-bit words: the four codings.
 #![tactic(auto)]
 
-pub mod coded;
 pub mod coding;
-mod packing;
+pub mod every;
+mod near;
+pub mod pairs;
+pub mod triples;
 
-pub use coded::Coded;
 pub use coding::Coding;
+pub use every::Every;
+pub use pairs::{And, AndXor};
+pub use triples::Majority;

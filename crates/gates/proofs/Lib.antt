@@ -1,4 +1,2 @@
-pub mod Signals
-pub mod Laws
 pub mod Rows
 pub mod Calls

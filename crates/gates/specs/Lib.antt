@@ -1,4 +1,4 @@
-pub mod Outputs
 pub mod Keeping
 pub mod Parts
 pub mod Gates
+pub mod Laws

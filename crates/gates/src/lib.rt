@@ -3,7 +3,5 @@
 
 pub mod gates;
 mod keeping;
-pub mod outputs;
 
 pub use gates::Gates;
-pub use outputs::Outputs;

@@ -1,22 +1,21 @@
 -- Rows placed in order into an empty network come out as they were, over new numbers.
-use Rattle.std.proofs.Common.{◌≡◌, ℕ, suc, ◌+◌, ◌<◌, ◌≤◌, Bool, true, false, ◌&&◌, List, [], ◌∷◌, ◌++◌, length, get_or, Ok, Result, sym, refl, ap, ◌∙◌, subst, ap₂, inl, inr, not-suc-le-zero, arith}
+use Rattle.std.proofs.Common.{◌≡◌, ℕ, suc, ◌+◌, ◌<◌, ◌≤◌, Bool, true, false, List, [], ◌∷◌, ◌++◌, length, get_or, Ok, Result, sym, refl, ap, ◌∙◌, subst, inl, inr, not-suc-le-zero, arith}
 use Rattle.std.proofs.lemmas.List.FromFn.{length-map-range_with_len, get_or-map-range_with_len}
 use Rattle.std.proofs.lemmas.List.{get_or_append_left, get_or_push, length_push}
 use Rattle.std.proofs.lemmas.Bool.{le-leb, cases_lt, cases_Bool, and_from, true≢false}
 use Rattle.tables.specs.declared.Variable.{Variable}
 use Rattle.tables.specs.declared.Variable.TheVariants.{V0, V1, V2, V3}
-use Rattle.tables.specs.Tables.{value}
 use Rattle.classes.specs.declared.Ownership.{Ownership}
 use Rattle.netlists.specs.declared.Signal.{Signal}
 use Rattle.netlists.specs.declared.Row.{Row}
-use Rattle.netlists.specs.declared.Fanins.{Fanins}
+use Rattle.tables.specs.declared.per_variable.PerVariable.{PerVariable}
 use Rattle.netlists.specs.declared.Form.{Form}
 use Rattle.netlists.specs.declared.Refusal.{Refusal}
 use Rattle.netlists.specs.Netlists.{Netlist, signal_under}
 use Rattle.netlists.specs.Normal.{node_at, normal}
 use Rattle.netlists.specs.Placing.{is_there, all_there, row_node, no_row, no_signal, signal_of, with_row, Placing}
 use Rattle.netlists.specs.Lawful.{Means, Lawful}
-use Rattle.netlists.specs.Copies.{Copy, signal_in, fanins_in, and_then, noted, skipped, copy_row, copy_rows, fresh, kept_before}
+use Rattle.netlists.specs.Copies.{Copy, fanins_in, and_then, noted, skipped, copy_row, copy_rows, fresh, kept_before}
 use Rattle.netlists.proofs.Shapes.{normal_means}
 use Rattle.netlists.proofs.Unique.{unique_form}
 use Rattle.netlists.proofs.Ways.{taken, passed, row_added, place_owned}
@@ -58,7 +57,7 @@ module _ (o : Ownership) (places : ℕ) (size : ℕ) (n : Netlist) (law : Lawful
       signal_is : (v : Variable) → get_or c.signals (node_at (row k) v).number no_signal ≡ plain (renumber keep i (node_at (row k) v).number)
       signal_is v = here.signals_at (node_at (row k) v).number ((law.rows_lawful k inside).earlier v) (opens v)
 
-      abbrev fanins : Fanins
+      abbrev fanins : PerVariable Signal
       fanins = fanins_in c.signals (row k)
 
       abbrev form : Form
@@ -67,10 +66,7 @@ module _ (o : Ownership) (places : ℕ) (size : ℕ) (n : Netlist) (law : Lawful
       form_means : Means (row k).table fanins form
       form_means = record {
         lawful = relabel_normal keep i (row k) opens (law.rows_lawful k inside).shape;
-        means = λ φ z.
-            let one = λ (v : Variable). ap (signal_under φ) (sym (signal_is v)) in
-            ap₂ (λ (a b : Bool). value (row k).table (record { a = a; b = b; c = φ (renumber keep i (row k).c.number); d = φ (renumber keep i (row k).d.number) })) (one V0) (one V1)
-            ∙ ap₂ (λ (a b : Bool). value (row k).table (record { a = signal_under φ (signal_in c.signals (row k).a); b = signal_under φ (signal_in c.signals (row k).b); c = a; d = b })) (one V2) (one V3);
+        means = λ φ z. let one = λ (v : Variable). ap (signal_under φ) (signal_is v) in grind (arith, one V0, one V1, one V2, one V3);
       }
 
       form_is : form ≡ normal (row k).table fanins
@@ -87,11 +83,7 @@ module _ (o : Ownership) (places : ℕ) (size : ℕ) (n : Netlist) (law : Lawful
           subst (λ (x : Signal). is_there c.netlist x.node ≡ true) (sym (signal_is v)) (le-leb (renumber keep i m) (c.netlist.inputs + length c.netlist.rows) le)
 
       all_there_lem : all_there c.netlist fanins ≡ true
-      all_there_lem =
-          let a = is_there c.netlist fanins.a.node in
-          let b = is_there c.netlist fanins.b.node in
-          let d = is_there c.netlist fanins.c.node in
-          and_from (a && b && d) (is_there c.netlist fanins.d.node) (and_from (a && b) d (and_from a b (node_there V0) (node_there V1)) (node_there V2)) (node_there V3)
+      all_there_lem = search (and_from, node_there V0, node_there V1, node_there V2, node_there V3)
 
       none_alike : (x : ℕ) → x < length c.netlist.rows → get_or c.netlist.rows x no_row ≡ new k → ⊥
       none_alike x h e =
@@ -103,10 +95,10 @@ module _ (o : Ownership) (places : ℕ) (size : ℕ) (n : Netlist) (law : Lawful
           let eq = law.no_two_alike j k l inside (relabel_one keep i (row j) (row k) (closed j l f.2) opens same) in
           omega (arith, eq, f.1)
 
-      positive : (new k).b.number ≡ 0 → ⊥
+      positive : (new k).nodes.b.number ≡ 0 → ⊥
       positive e =
           let t = (law.rows_lawful k inside).two in
-          let z = of_used keep i (row k).b.number t in
+          let z = of_used keep i (row k).nodes.b.number t in
           omega arith
 
       abbrev after : Copy

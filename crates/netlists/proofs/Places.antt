@@ -1,5 +1,5 @@
 -- What place, start and output mean for a netlist: values are kept, rows stay lawful, and the answer has the value of the table.
-use Rattle.std.proofs.Common.{◌≡◌, ℕ, zero, suc, ◌+◌, ◌<◌, ◌≤◌, Bool, true, false, ◌&&◌, eqb, ltb, leb, List, [], ◌∷◌, ◌++◌, length, get_or, Ok, Err, Result, sym, refl, ap, ◌∙◌, subst, ap₂, inl, inr, not-suc-le-zero, arith}
+use Rattle.std.proofs.Common.{◌≡◌, ℕ, ◌+◌, ◌<◌, ◌≤◌, Bool, true, false, eqb, ltb, leb, List, [], ◌∷◌, ◌++◌, length, get_or, Ok, Err, Result, sym, refl, ap, ◌∙◌, subst, inl, inr, not-suc-le-zero, arith}
 use Rattle.std.proofs.lemmas.List.{get_or_append_left, get_or_push, length_push}
 use Rattle.std.proofs.lemmas.Bool.{eqb-true, eqb-false, ltb-true, ltb-false, leb-true, le-leb, and_parts, cases_lt}
 use Rattle.tables.specs.declared.Variable.{Variable}
@@ -11,11 +11,11 @@ use Rattle.classes.specs.Owned.{owns}
 use Rattle.netlists.specs.declared.Node.{Node}
 use Rattle.netlists.specs.declared.Signal.{Signal}
 use Rattle.netlists.specs.declared.Row.{Row}
-use Rattle.netlists.specs.declared.Fanins.{Fanins}
+use Rattle.tables.specs.declared.per_variable.PerVariable.{PerVariable}
 use Rattle.netlists.specs.declared.Form.{Form}
 use Rattle.netlists.specs.declared.Refusal.{Refusal}
 use Rattle.netlists.specs.declared.Refusal.TheVariants.{NoSuchNode, TooManyInputs, TooManyOutputs, NotOwned, NoPlace}
-use Rattle.netlists.specs.Netlists.{Netlist, signal_under, row_under, fanins_under, held, values, node_values, signal_value}
+use Rattle.netlists.specs.Netlists.{Netlist, row_under, fanins_under, held, values, node_values, signal_value}
 use Rattle.netlists.specs.Normal.{node_at, normal}
 use Rattle.netlists.specs.Placing.{is_there, all_there, row_node, no_row, no_signal, first_alike, Placing, with_row, signal_of, place_row, place_form, after_place, empty, after_start, with_output, after_output}
 use Rattle.netlists.specs.Lawful.{LawfulRow, Lawful}
@@ -26,24 +26,16 @@ use Rattle.netlists.proofs.Alike.{alike_found, alike_first}
 use Rattle.netlists.proofs.Nodes.{normal_nodes}
 
 positive : (k : ℕ) → (k ≡ 0 → ⊥) → 0 < k
-positive zero h = absurd (h refl)
-positive (suc k) h = omega arith
+positive k h = omega (arith, h)
 
 -- ---- nodes that are there
 
 there : (n : Netlist) (x : Node) → is_there n x ≡ true → x.number ≤ n.inputs + length n.rows
 there n x e = leb-true x.number (n.inputs + length n.rows) e
 
-all_there_lem : (n : Netlist) (s : Fanins) → all_there n s ≡ true
+all_there_lem : (n : Netlist) (s : PerVariable Signal) → all_there n s ≡ true
     → (is_there n s.a.node ≡ true) × (is_there n s.b.node ≡ true) × (is_there n s.c.node ≡ true) × (is_there n s.d.node ≡ true)
-all_there_lem n s e =
-    let a = is_there n s.a.node in
-    let b = is_there n s.b.node in
-    let c = is_there n s.c.node in
-    let p = and_parts (a && b && c) (is_there n s.d.node) e in
-    let q = and_parts (a && b) c p.0 in
-    let r = and_parts a b q.0 in
-    (r.0, r.1, q.1, p.1)
+all_there_lem n s e = search (arith, and_parts)
 
 -- ---- a netlist with one more row keeps the values
 
@@ -65,15 +57,12 @@ added_extends n r = record {
       );
 }
 
-fanins_same : (n m : Netlist) (s : Fanins) → Extends n m → all_there n s ≡ true → (xs : List Bool) → length xs ≡ n.inputs
+fanins_same : (n m : Netlist) (s : PerVariable Signal) → Extends n m → all_there n s ≡ true → (xs : List Bool) → length xs ≡ n.inputs
     → fanins_under (held (node_values m xs)) s ≡ fanins_under (held (node_values n xs)) s
 fanins_same n m s k t xs l =
     let p = all_there_lem n s t in
-    let φ = held (node_values m xs) in
-    let ψ = held (node_values n xs) in
-    let one = λ (x : Signal) (h : is_there n x.node ≡ true). ap (inverted x.inverted) (k.same_values xs l x.node h).1 in
-    ap₂ (λ (a b : Bool). record { a = a; b = b; c = signal_under φ s.c; d = signal_under φ s.d }) (one s.a p.0) (one s.b p.1)
-    ∙ ap₂ (λ (c d : Bool). record { a = signal_under ψ s.a; b = signal_under ψ s.b; c = c; d = d }) (one s.c p.2) (one s.d p.3)
+    let at = λ (x : Signal) (h : is_there n x.node ≡ true). (k.same_values xs l x.node h).1 in
+    grind (arith, at s.a p.0, at s.b p.1, at s.c p.2, at s.d p.3)
 
 -- the signal of row k has the row's value
 row_signal : (m : Netlist) (k : ℕ) (i : Bool) → k < length m.rows → ((v : Variable) → (node_at (get_or m.rows k no_row) v).number < m.inputs + 1 + k)
@@ -86,7 +75,7 @@ row_signal m k i h e xs l =
 
 -- ---- place
 
-module _ (o : Ownership) (places : ℕ) (n : Netlist) (law : Lawful o places n) (f : ℕ) (small : f < 65536) (s : Fanins) (all : all_there n s ≡ true) where
+module _ (o : Ownership) (places : ℕ) (n : Netlist) (law : Lawful o places n) (f : ℕ) (small : f < 65536) (s : PerVariable Signal) (all : all_there n s ≡ true) where
   -- an accepted answer is as it should be
   abbrev Good : Result Placing Refusal → Type 0
   Good (Ok p) = Placed o places n f s p
@@ -128,7 +117,7 @@ module _ (o : Ownership) (places : ℕ) (n : Netlist) (law : Lawful o places n) 
       }
 
   -- the rows with one more, none of them alike
-  added_rows : 0 < form.row.b.number → owns o form.row.table ≡ true → (k : ℕ) → k < length (n.rows ++ form.row ∷ []) → LawfulRow o (n.inputs + 1 + k) (get_or (n.rows ++ form.row ∷ []) k no_row)
+  added_rows : 0 < form.row.nodes.b.number → owns o form.row.table ≡ true → (k : ℕ) → k < length (n.rows ++ form.row ∷ []) → LawfulRow o (n.inputs + 1 + k) (get_or (n.rows ++ form.row ∷ []) k no_row)
   added_rows two own k h =
       let e = length_push n.rows form.row in
       elim (cases_lt k (length n.rows)) [
@@ -141,26 +130,9 @@ module _ (o : Ownership) (places : ℕ) (n : Netlist) (law : Lawful o places n) 
 
   alone : length n.rows ≤ first_alike form.row n.rows → (j k : ℕ) → j < length (n.rows ++ form.row ∷ []) → k < length (n.rows ++ form.row ∷ [])
       → get_or (n.rows ++ form.row ∷ []) j no_row ≡ get_or (n.rows ++ form.row ∷ []) k no_row → j ≡ k
-  alone none j k hj hk e =
-      let g = length_push n.rows form.row in
-      let old = λ (i : ℕ) (l : i < length n.rows). get_or_append_left n.rows (form.row ∷ []) no_row i l in
-      let new = λ (i : ℕ) (l : length n.rows ≡ i). get_or_push n.rows form.row no_row i l in
-      elim (cases_lt j (length n.rows)) [
-        | inl lj ↦ elim (cases_lt k (length n.rows)) [
-          | inl lk ↦ law.no_two_alike j k lj lk (sym (old j lj) ∙ e ∙ old k lk)
-          | inr lk ↦
-              let q : length n.rows ≡ k = omega arith in
-              absurd (alike_first form.row n.rows j (omega arith) (sym (old j lj) ∙ e ∙ new k q))
-        ]
-        | inr lj ↦ elim (cases_lt k (length n.rows)) [
-          | inl lk ↦
-              let q : length n.rows ≡ j = omega arith in
-              absurd (alike_first form.row n.rows k (omega arith) (sym (old k lk) ∙ sym e ∙ new j q))
-          | inr lk ↦ omega arith
-        ]
-      ]
+  alone none j k hj hk e = grind (arith, length_push, get_or_append_left, get_or_push, alike_first, law.no_two_alike)
 
-  added : length n.rows ≤ first_alike form.row n.rows → length n.rows < places → 0 < form.row.b.number → owns o form.row.table ≡ true
+  added : length n.rows ≤ first_alike form.row n.rows → length n.rows < places → 0 < form.row.nodes.b.number → owns o form.row.table ≡ true
       → Placed o places n f s (record { signal = signal_of (row_node n (length n.rows)) form.inverted; netlist = with_row n form.row })
   added none room two own =
       let g = length_push n.rows form.row in
@@ -185,7 +157,7 @@ module _ (o : Ownership) (places : ℕ) (n : Netlist) (law : Lawful o places n) 
         means = row_means (with_row n form.row) (length n.rows) ext inside (get_or_push n.rows form.row no_row (length n.rows) refl) early;
       }
 
-  row_good : 0 < form.row.b.number → owns o form.row.table ≡ true → Good (place_row places n form.row form.inverted)
+  row_good : 0 < form.row.nodes.b.number → owns o form.row.table ≡ true → Good (place_row places n form.row form.inverted)
   unfolding place_row
   row_good two own = go (ltb k (length n.rows)) (ltb-true k (length n.rows)) (ltb-false k (length n.rows)) (ltb (length n.rows) places) (ltb-true (length n.rows) places)
     where
@@ -204,7 +176,7 @@ module _ (o : Ownership) (places : ℕ) (n : Netlist) (law : Lawful o places n) 
       go false p q true r = added (q refl) (r refl) two own
       go false p q false r = tt
 
-  lone : form.row.b.number ≡ 0 → Placed o places n f s (record { signal = signal_of form.row.a form.inverted; netlist = n })
+  lone : form.row.nodes.b.number ≡ 0 → Placed o places n f s (record { signal = signal_of form.row.nodes.a form.inverted; netlist = n })
   lone z =
       let p = all_there_lem n s all in
       let a = normal_nodes (λ k. leb k (n.inputs + length n.rows) ≡ true) (le-leb 0 (n.inputs + length n.rows) (omega arith)) f s p.0 p.1 p.2 p.3 in
@@ -219,24 +191,24 @@ module _ (o : Ownership) (places : ℕ) (n : Netlist) (law : Lawful o places n) 
 
   form_good : Good (place_form o places n form)
   unfolding place_form
-  form_good = go (eqb form.row.b.number 0) (eqb-true form.row.b.number 0) (eqb-false form.row.b.number 0) (owns o form.row.table) refl
+  form_good = go (eqb form.row.nodes.b.number 0) (eqb-true form.row.nodes.b.number 0) (eqb-false form.row.nodes.b.number 0) (owns o form.row.table) refl
     where
-      go : (b : Bool) → (b ≡ true → form.row.b.number ≡ 0) → (b ≡ false → form.row.b.number ≡ 0 → ⊥) → (c : Bool) → owns o form.row.table ≡ c
+      go : (b : Bool) → (b ≡ true → form.row.nodes.b.number ≡ 0) → (b ≡ false → form.row.nodes.b.number ≡ 0 → ⊥) → (c : Bool) → owns o form.row.table ≡ c
           → Good (elim b [
-            | true ↦ Ok (record { signal = signal_of form.row.a form.inverted; netlist = n })
+            | true ↦ Ok (record { signal = signal_of form.row.nodes.a form.inverted; netlist = n })
             | false ↦ elim c [ true ↦ place_row places n form.row form.inverted | false ↦ Err NotOwned ]
           ])
       go true p q c r = lone (p refl)
-      go false p q true r = row_good (positive form.row.b.number (q refl)) r
+      go false p q true r = row_good (positive form.row.nodes.b.number (q refl)) r
       go false p q false r = tt
 
 -- ---- what an accepted call gives
 
-abbrev Answered : Ownership → ℕ → Netlist → ℕ → Fanins → Result Placing Refusal → Type 0
+abbrev Answered : Ownership → ℕ → Netlist → ℕ → PerVariable Signal → Result Placing Refusal → Type 0
 Answered o places n f s (Ok p) = Placed o places n f s p
 Answered o places n f s (Err e) = Unit {0}
 
-place_good : (o : Ownership) (places : ℕ) (n : Netlist) → Lawful o places n → (f : ℕ) → f < 65536 → (s : Fanins) → Answered o places n f s (after_place o places n f s)
+place_good : (o : Ownership) (places : ℕ) (n : Netlist) → Lawful o places n → (f : ℕ) → f < 65536 → (s : PerVariable Signal) → Answered o places n f s (after_place o places n f s)
 unfolding after_place
 place_good o places n law f small s = go (all_there n s) refl
   where
@@ -249,7 +221,7 @@ place_good o places n law f small s = go (all_there n s) refl
     go false e = tt
 
 -- table f over four signals, where the call is accepted
-pub place_placed : (o : Ownership) (places : ℕ) (n : Netlist) (f : ℕ) (s : Fanins) (p : Placing) → Lawful o places n → f < 65536 → after_place o places n f s ≡ Ok p → Placed o places n f s p
+pub place_placed : (o : Ownership) (places : ℕ) (n : Netlist) (f : ℕ) (s : PerVariable Signal) (p : Placing) → Lawful o places n → f < 65536 → after_place o places n f s ≡ Ok p → Placed o places n f s p
 place_placed o places n f s p law small e = subst (Answered o places n f s) e (place_good o places n law f small s)
 
 -- an empty network is lawful

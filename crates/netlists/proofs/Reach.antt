@@ -18,17 +18,17 @@ use Rattle.netlists.proofs.Sweeps.{claims_nodes, claims_keeps, output_has}
 module _ (n : Netlist) where
   four : (r : Row) (m : ℕ) (ws : List ℕ) → has m (nodes_of r ++ ws) ≡ true → ((v : Variable) × ((node_at r v).number ≡ m)) ⊎ (has m ws ≡ true)
   four r m ws e =
-      let d = eqb m r.d.number || has m ws in
-      let c = eqb m r.c.number || d in
-      let b = eqb m r.b.number || c in
-      elim (or_cases (eqb m r.a.number) b e) [
-        | inl p ↦ inl (V0, sym (eqb-true m r.a.number p))
-        | inr p ↦ elim (or_cases (eqb m r.b.number) c p) [
-          | inl q ↦ inl (V1, sym (eqb-true m r.b.number q))
-          | inr q ↦ elim (or_cases (eqb m r.c.number) d q) [
-            | inl s ↦ inl (V2, sym (eqb-true m r.c.number s))
-            | inr s ↦ elim (or_cases (eqb m r.d.number) (has m ws) s) [
-              | inl t ↦ inl (V3, sym (eqb-true m r.d.number t))
+      let d = eqb m r.nodes.d.number || has m ws in
+      let c = eqb m r.nodes.c.number || d in
+      let b = eqb m r.nodes.b.number || c in
+      elim (or_cases (eqb m r.nodes.a.number) b e) [
+        | inl p ↦ inl (V0, sym (eqb-true m r.nodes.a.number p))
+        | inr p ↦ elim (or_cases (eqb m r.nodes.b.number) c p) [
+          | inl q ↦ inl (V1, sym (eqb-true m r.nodes.b.number q))
+          | inr q ↦ elim (or_cases (eqb m r.nodes.c.number) d q) [
+            | inl s ↦ inl (V2, sym (eqb-true m r.nodes.c.number s))
+            | inr s ↦ elim (or_cases (eqb m r.nodes.d.number) (has m ws) s) [
+              | inl t ↦ inl (V3, sym (eqb-true m r.nodes.d.number t))
               | inr t ↦ inr t
             ]
           ]

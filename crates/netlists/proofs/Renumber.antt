@@ -1,6 +1,6 @@
 -- The rows that are kept of a netlist, numbered anew: the order of their nodes stays.
 use Rattle.std.proofs.Common.{◌≡◌, ℕ, zero, suc, ◌+◌, ◌-◌, ◌<◌, ◌≤◌, Bool, true, false, cond, ltb, leb, ◌⊎◌, sym, ap, ◌∙◌, subst, inl, inr, not-suc-le-zero, arith}
-use Rattle.std.proofs.lemmas.Bool.{lt-ltb, le-leb, lt-leb, cases_lt, cases_order, cases_Bool}
+use Rattle.std.proofs.lemmas.Bool.{cases_lt, cases_Bool}
 use Rattle.tables.specs.declared.Variable.{Variable}
 use Rattle.tables.specs.declared.Variable.TheVariants.{V0, V1, V2, V3}
 use Rattle.tables.specs.Tables.{depends_on}
@@ -16,10 +16,10 @@ module _ (keep : ℕ → Bool) (i : ℕ) where
   rank k = kept_before keep i k
 
   pub rank_kept : (k : ℕ) → keep (i + 1 + k) ≡ true → rank (suc k) ≡ rank k + 1
-  rank_kept k e = ap (λ (b : Bool). rank k + cond b 1 0) e
+  rank_kept k e = grind arith
 
   pub rank_skipped : (k : ℕ) → keep (i + 1 + k) ≡ false → rank (suc k) ≡ rank k
-  rank_skipped k e = ap (λ (b : Bool). rank k + cond b 1 0) e ∙ omega arith
+  rank_skipped k e = grind arith
 
   pub rank_mono : (j k : ℕ) → j ≤ k → rank j ≤ rank k
   rank_mono j zero h = let e : j ≡ 0 = omega arith in subst (λ (x : ℕ). rank x ≤ 0) (sym e) (omega arith)
@@ -59,43 +59,19 @@ module _ (keep : ℕ → Bool) (i : ℕ) where
   Open m = (m ≤ i) ⊎ (keep m ≡ true)
 
   pub of_input : (m : ℕ) → m ≤ i → renumber m ≡ m
-  of_input m h = ap (λ (b : Bool). cond b m (i + 1 + rank (m - (i + 1)))) (le-leb m i h)
+  of_input m h = grind arith
 
   pub of_row : (j : ℕ) → renumber (i + 1 + j) ≡ i + 1 + rank j
-  of_row j =
-      let l : i < i + 1 + j = omega arith in
-      let e : i + 1 + j - (i + 1) ≡ j = omega arith in
-      ap (λ (b : Bool). cond b (i + 1 + j) (i + 1 + rank (i + 1 + j - (i + 1)))) (lt-leb (i + 1 + j) i l) ∙ ap (λ (k : ℕ). i + 1 + rank k) e
+  of_row j = grind arith
 
   past_input : (m : ℕ) → i < m → m ≡ i + 1 + (m - (i + 1))
   past_input m h = omega arith
 
   row_lt : (x y : ℕ) → i < x → x < y → keep x ≡ true → renumber x < renumber y
-  row_lt x y h l k =
-      let j = x - (i + 1) in
-      let m = y - (i + 1) in
-      let p : x ≡ i + 1 + j = past_input x h in
-      let q : y ≡ i + 1 + m = omega arith in
-      let lt : j < m = omega arith in
-      let a = ap renumber p ∙ of_row j in
-      let b = ap renumber q ∙ of_row m in
-      let r = rank_lt j m lt (ap keep (sym p) ∙ k) in
-      omega (arith, a, b, r)
+  row_lt x y h l k = grind (arith, rank_lt, of_row)
 
   pub order_kept : (x y : ℕ) → x < y → Open x → renumber x < renumber y
-  order_kept x y l o =
-      elim (cases_lt i x) [
-        | inl h ↦ elim o [ inl a ↦ absurd (omega arith) | inr k ↦ row_lt x y h l k ]
-        | inr h ↦
-            let a = of_input x h in
-            elim (cases_lt i y) [
-              | inl g ↦
-                  let q = past_input y g in
-                  let b = ap renumber q ∙ of_row (y - (i + 1)) in
-                  omega (arith, a, b)
-              | inr g ↦ let b = of_input y g in omega arith
-            ]
-      ]
+  order_kept x y l o = grind (arith, of_input, row_lt)
 
   pub of_zero : renumber 0 ≡ 0
   of_zero = of_input 0 (omega arith)
@@ -104,30 +80,25 @@ module _ (keep : ℕ → Bool) (i : ℕ) where
   of_used m h = let p = order_kept 0 m h (inl (omega arith)) in omega arith
 
   used_before : (m : ℕ) → 0 < renumber m → 0 < m
-  used_before zero h = let z = of_zero in omega arith
-  used_before (suc m) h = omega arith
+  used_before m h = grind (arith, of_zero)
 
   same_use : (m : ℕ) → ltb 0 m ≡ ltb 0 (renumber m)
-  same_use zero = ap (ltb 0) (sym of_zero)
-  same_use (suc m) = let h : 0 < suc m = omega arith in lt-ltb 0 (suc m) h ∙ sym (lt-ltb 0 (renumber (suc m)) (of_used (suc m) h))
+  same_use m = grind (arith, of_zero, of_used)
 
   pub renumber_one : (x y : ℕ) → Open x → Open y → renumber x ≡ renumber y → x ≡ y
-  renumber_one x y a b e =
-      elim (cases_order x y) [
-        | inl same ↦ same
-        | inr (inl l) ↦ let p = order_kept x y l a in absurd (omega arith)
-        | inr (inr l) ↦ let p = order_kept y x l b in absurd (omega arith)
-      ]
+  renumber_one x y a b e = grind (arith, order_kept)
 
   -- ---- rows over the new numbers
 
   abbrev pub relabel : Row → Row
   relabel r = record {
     table = r.table;
-    a = record { number = renumber r.a.number };
-    b = record { number = renumber r.b.number };
-    c = record { number = renumber r.c.number };
-    d = record { number = renumber r.d.number };
+    nodes = record {
+      a = record { number = renumber r.nodes.a.number };
+      b = record { number = renumber r.nodes.b.number };
+      c = record { number = renumber r.nodes.c.number };
+      d = record { number = renumber r.nodes.d.number };
+    };
   }
 
   follows : (x y : ℕ) → Open x → Follows x y → Follows (renumber x) (renumber y)
@@ -136,18 +107,18 @@ module _ (keep : ℕ → Bool) (i : ℕ) where
   pub relabel_normal : (r : Row) → ((v : Variable) → Open (node_at r v).number) → Normal r → Normal (relabel r)
   relabel_normal r o law = record {
     fits = law.fits;
-    ascending_b = follows r.a.number r.b.number (o V0) law.ascending_b;
-    ascending_c = follows r.b.number r.c.number (o V1) law.ascending_c;
-    ascending_d = follows r.c.number r.d.number (o V2) law.ascending_d;
+    ascending_b = follows r.nodes.a.number r.nodes.b.number (o V0) law.ascending_b;
+    ascending_c = follows r.nodes.b.number r.nodes.c.number (o V1) law.ascending_c;
+    ascending_d = follows r.nodes.c.number r.nodes.d.number (o V2) law.ascending_d;
     exact = every_variable_lem (λ v. depends_on r.table v ≡ ltb 0 (node_at (relabel r) v).number)
-        (law.exact V0 ∙ same_use r.a.number) (law.exact V1 ∙ same_use r.b.number) (law.exact V2 ∙ same_use r.c.number) (law.exact V3 ∙ same_use r.d.number);
+        (law.exact V0 ∙ same_use r.nodes.a.number) (law.exact V1 ∙ same_use r.nodes.b.number) (law.exact V2 ∙ same_use r.nodes.c.number) (law.exact V3 ∙ same_use r.nodes.d.number);
     zero = law.zero;
   }
 
   pub relabel_one : (r q : Row) → ((v : Variable) → Open (node_at r v).number) → ((v : Variable) → Open (node_at q v).number) → relabel r ≡ relabel q → r ≡ q
   relabel_one r q o p e =
       made r q (ap (λ (x : Row). x.table) e)
-      (renumber_one r.a.number q.a.number (o V0) (p V0) (ap (λ (x : Row). x.a.number) e))
-      (renumber_one r.b.number q.b.number (o V1) (p V1) (ap (λ (x : Row). x.b.number) e))
-      (renumber_one r.c.number q.c.number (o V2) (p V2) (ap (λ (x : Row). x.c.number) e))
-      (renumber_one r.d.number q.d.number (o V3) (p V3) (ap (λ (x : Row). x.d.number) e))
+      (renumber_one r.nodes.a.number q.nodes.a.number (o V0) (p V0) (ap (λ (x : Row). x.nodes.a.number) e))
+      (renumber_one r.nodes.b.number q.nodes.b.number (o V1) (p V1) (ap (λ (x : Row). x.nodes.b.number) e))
+      (renumber_one r.nodes.c.number q.nodes.c.number (o V2) (p V2) (ap (λ (x : Row). x.nodes.c.number) e))
+      (renumber_one r.nodes.d.number q.nodes.d.number (o V3) (p V3) (ap (λ (x : Row). x.nodes.d.number) e))

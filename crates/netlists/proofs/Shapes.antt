@@ -1,28 +1,22 @@
 -- The shape of the normal form: the nodes that the table depends on, each once, ascending, and a table false at index 0.
-use Rattle.std.proofs.Common.{◌≡◌, ℕ, ◌<◌, ◌≤◌, Bool, true, false, cond, not, ◌||◌, T, eqb, ltb, ◌⊎◌, sym, refl, ap, ◌∙◌, subst, inl, inr, arith}
-use Rattle.std.proofs.lemmas.Bool.{eqb-true, eqb-false, ltb-true, ltb-false, lt-ltb, and_parts, and_cases, or_cases, or_parts, cond_both, false≢true, cases_lt}
+use Rattle.std.proofs.Common.{◌≡◌, ℕ, ◌<◌, ◌≤◌, Bool, true, false, cond, T, eqb, ltb, ◌⊎◌, sym, refl, ap, ◌∙◌, subst, inl, inr, arith}
+use Rattle.std.proofs.lemmas.Bool.{eqb-true, eqb-false, ltb-true, ltb-false, cond_both}
 use Rattle.tables.specs.declared.Variable.{Variable}
 use Rattle.tables.specs.declared.Variable.TheVariants.{V0, V1, V2, V3}
-use Rattle.tables.specs.Settings.{setting}
 use Rattle.tables.specs.Tables.{complement, cofactor, depends_on}
 use Rattle.tables.specs.Swaps.{swapped, joined}
 use Rattle.tables.proofs.Laws.{value-complement}
 use Rattle.tables.proofs.Swaps.{every_variable_lem, differ, same_or_differ, swap_variable, swap_twice, Free, free_depends, free_same, cofactor_own, cofactor_keeps, joined_own, joined_keeps, joined_idle, depends_swapped, depends_complement, swapped_lt, joined_lt, cofactor_lt, flipped_lt, complement_lt}
 use Rattle.netlists.specs.declared.Node.{Node}
 use Rattle.netlists.specs.declared.Row.{Row}
-use Rattle.netlists.specs.declared.Fanins.{Fanins}
+use Rattle.tables.specs.declared.per_variable.PerVariable.{PerVariable}
+use Rattle.netlists.specs.declared.Signal.{Signal}
 use Rattle.netlists.specs.Normal.{none, node_at, with_node, with_table, turned, entered, grounded, unified, trimmed, precedes, first, second, ordered, all_grounded, all_unified, all_trimmed, all_ordered, reduced, at_zero, settled, normal}
 use Rattle.netlists.specs.Lawful.{Follows, Normal, Means}
-use Rattle.netlists.proofs.Steps.{table_with_node, with_node_same, grounded_by, unified_by, ordered_by, ordered_idle, normal-value}
+use Rattle.netlists.proofs.Steps.{with_node_same, grounded_by, unified_by, ordered_by, ordered_idle, reduced_keeps, normal-value}
 
 abbrev number_at : Row → Variable → ℕ
 number_at r v = (node_at r v).number
-
-pub node_at-with_table : (r : Row) (f : ℕ) (v : Variable) → node_at (with_table r f) v ≡ node_at r v
-node_at-with_table r f V0 = refl
-node_at-with_table r f V1 = refl
-node_at-with_table r f V2 = refl
-node_at-with_table r f V3 = refl
 
 pub node_at-with_node : (r : Row) (v : Variable) (n : Node) → node_at (with_node r v n) v ≡ n
 node_at-with_node r V0 n = refl
@@ -44,12 +38,10 @@ abbrev Unread : Row → Variable → Type 0
 Unread r v = number_at r v ≡ 0 → Free r.table v
 
 grounded_own : (r : Row) (v : Variable) (b : Bool) → (b ≡ false → number_at r v ≡ 0 → ⊥) → Unread (grounded_by r v b) v
-grounded_own r v true h e = cofactor_own r.table v false
-grounded_own r v false h e = absurd (h refl e)
+grounded_own r v b h e = grind (arith, cofactor_own)
 
 grounded_keeps : (r : Row) (v w : Variable) (b : Bool) → Unread r w → Unread (grounded_by r v b) w
-grounded_keeps r v w true h e = cofactor_keeps r.table v w false (h (ap (λ (n : Node). n.number) (sym (node_at-with_table r (cofactor r.table v false) w)) ∙ e))
-grounded_keeps r v w false h e = h e
+grounded_keeps r v w b h e = grind (arith, cofactor_keeps)
 
 own : (r : Row) (v : Variable) → Unread (grounded r v) v
 unfolding grounded
@@ -73,21 +65,19 @@ all_grounded_unread r =
 
 unread_with_node : (r : Row) (k : Variable) (n : Node) → Free r.table k → ((w : Variable) → T (differ w k) → Unread r w) → (w : Variable) → Unread (with_node r k n) w
 unread_with_node r k n own rest w e =
-    subst (λ (f : ℕ). Free f w) (sym (table_with_node r k n))
-    (elim (same_or_differ w k) [
+    elim (same_or_differ w k) [
       | inl p ↦ subst (Free r.table) (sym p) own
       | inr d ↦ rest w d (ap (λ (m : Node). m.number) (sym (node_at-with_node_other r n k w d)) ∙ e)
-    ])
+    ]
 
 unified_unread : (r : Row) (j k : Variable) → T (differ k j) → (b : Bool) → (b ≡ true → number_at r j ≡ number_at r k) → ((v : Variable) → Unread r v) → (w : Variable) → Unread (unified_by r j k b) w
 unified_unread r j k d true same h =
     let f = joined r.table j k in
     unread_with_node (with_table r f) k none (joined_own r.table j k d)
     (λ w o e.
-    let z : number_at r w ≡ 0 = ap (λ (m : Node). m.number) (sym (node_at-with_table r f w)) ∙ e in
     elim (same_or_differ w j) [
-      | inl p ↦ free_same r.table f w (joined_idle r.table j k (h k (sym (same refl) ∙ subst (λ (u : Variable). number_at r u ≡ 0) p z))) (h w z)
-      | inr q ↦ joined_keeps r.table j k w o q (h w z)
+      | inl p ↦ free_same r.table f w (joined_idle r.table j k (h k (sym (same refl) ∙ subst (λ (u : Variable). number_at r u ≡ 0) p e))) (h w e)
+      | inr q ↦ joined_keeps r.table j k w o q (h w e)
     ])
 unified_unread r j k d false same h = subst (λ (q : Row). (w : Variable) → Unread q w) (sym (with_node_same r k)) h
 
@@ -116,18 +106,14 @@ abbrev Shrinks : Row → Row → Type 0
 Shrinks r q = (v : Variable) → (number_at q v ≡ number_at r v) ⊎ (number_at q v ≡ 0)
 
 apart_shrinks : (r q : Row) (j k : Variable) → Shrinks r q → Apart r j k → Apart q j k
-apart_shrinks r q j k s a e =
-    elim (s k) [
-      | inr z ↦ z
-      | inl p ↦ elim (s j) [ inr z ↦ sym e ∙ z | inl o ↦ p ∙ a (sym o ∙ e ∙ p) ]
-    ]
+apart_shrinks r q j k s a e = grind arith
 
 unified_shrinks : (r : Row) (j k : Variable) (b : Bool) → Shrinks r (unified_by r j k b)
 unified_shrinks r j k true w =
     let q = with_table r (joined r.table j k) in
     elim (same_or_differ w k) [
       | inl p ↦ inr (subst (λ (u : Variable). number_at (with_node q k none) u ≡ 0) (sym p) (ap (λ (m : Node). m.number) (node_at-with_node q k none)))
-      | inr d ↦ inl (ap (λ (m : Node). m.number) (node_at-with_node_other q none k w d ∙ node_at-with_table r (joined r.table j k) w))
+      | inr d ↦ inl (ap (λ (m : Node). m.number) (node_at-with_node_other q none k w d))
     ]
 unified_shrinks r j k false w = inl (ap (λ (q : Row). number_at q w) (with_node_same r k))
 
@@ -175,14 +161,7 @@ all_unified_once r =
     (apart r4 V2 V3)
 
 once_shrinks : (r q : Row) → Shrinks r q → Once r → Once q
-once_shrinks r q s o v w e =
-    elim (s v) [
-      | inr z ↦ inr z
-      | inl p ↦ elim (s w) [
-        | inr z ↦ inr (e ∙ z)
-        | inl t ↦ elim (o v w (sym p ∙ e ∙ t)) [ inl same ↦ inl same | inr z ↦ inr (p ∙ z) ]
-      ]
-    ]
+once_shrinks r q s o v w e = grind (arith, s v, s w, o v w)
 
 -- ---- trimming: the table depends on exactly the places that are used
 
@@ -190,32 +169,26 @@ abbrev Exact : Row → Type 0
 Exact r = (v : Variable) → depends_on r.table v ≡ ltb 0 (number_at r v)
 
 trim_exact : (f : ℕ) (v : Variable) (n : Node) (b : Bool) → depends_on f v ≡ b → (n.number ≡ 0 → Free f v) → depends_on f v ≡ ltb 0 (cond b n none).number
-trim_exact f v n false e h = e
-trim_exact f v n true e h =
-    e ∙ sym (lt-ltb 0 n.number (elim (cases_lt 0 n.number) [
-      | inl l ↦ l
-      | inr z ↦ let y : n.number ≡ 0 = omega arith in absurd (false≢true (sym (free_depends f v (h y)) ∙ e))
-    ]))
+trim_exact f v n b e h = grind (arith, free_depends f v)
 
 trim_shrinks : (n : Node) (b : Bool) → ((cond b n none).number ≡ n.number) ⊎ ((cond b n none).number ≡ 0)
-trim_shrinks n true = inl refl
-trim_shrinks n false = inr refl
+trim_shrinks n b = grind arith
 
 all_trimmed_exact : (r : Row) → ((v : Variable) → Unread r v) → Exact (all_trimmed r)
 unfolding all_trimmed trimmed
 all_trimmed_exact r h =
     every_variable_lem (λ v. depends_on (all_trimmed r).table v ≡ ltb 0 (number_at (all_trimmed r) v))
-    (trim_exact r.table V0 r.a (depends_on r.table V0) refl (h V0))
-    (trim_exact r.table V1 r.b (depends_on r.table V1) refl (h V1))
-    (trim_exact r.table V2 r.c (depends_on r.table V2) refl (h V2))
-    (trim_exact r.table V3 r.d (depends_on r.table V3) refl (h V3))
+    (trim_exact r.table V0 r.nodes.a (depends_on r.table V0) refl (h V0))
+    (trim_exact r.table V1 r.nodes.b (depends_on r.table V1) refl (h V1))
+    (trim_exact r.table V2 r.nodes.c (depends_on r.table V2) refl (h V2))
+    (trim_exact r.table V3 r.nodes.d (depends_on r.table V3) refl (h V3))
 
 all_trimmed_shrinks : (r : Row) → Shrinks r (all_trimmed r)
 unfolding all_trimmed trimmed
 all_trimmed_shrinks r =
     every_variable_lem (λ v. (number_at (all_trimmed r) v ≡ number_at r v) ⊎ (number_at (all_trimmed r) v ≡ 0))
-    (trim_shrinks r.a (depends_on r.table V0)) (trim_shrinks r.b (depends_on r.table V1))
-    (trim_shrinks r.c (depends_on r.table V2)) (trim_shrinks r.d (depends_on r.table V3))
+    (trim_shrinks r.nodes.a (depends_on r.table V0)) (trim_shrinks r.nodes.b (depends_on r.table V1))
+    (trim_shrinks r.nodes.c (depends_on r.table V2)) (trim_shrinks r.nodes.d (depends_on r.table V3))
 
 -- ---- ordering: the variables are exchanged with their nodes
 
@@ -231,15 +204,9 @@ node_at-exchanged r f =
     (every_variable_lem (λ k. (v : Variable) → node_at (with_node (with_node (with_table r f) V3 (node_at r k)) k (node_at r V3)) v ≡ node_at r (swap_variable V3 k v))
     (every_variable_lem _ refl refl refl refl) (every_variable_lem _ refl refl refl refl) (every_variable_lem _ refl refl refl refl) (every_variable_lem _ refl refl refl refl))
 
-table_ordered : (r : Row) (j k : Variable) (b : Bool) → (ordered_by r j k b).table ≡ cond b (swapped r.table j k) r.table
-table_ordered r j k b =
-    let q = with_table r (cond b (swapped r.table j k) r.table) in
-    table_with_node (with_node q j (cond b (node_at r k) (node_at r j))) k (cond b (node_at r j) (node_at r k))
-    ∙ table_with_node q j (cond b (node_at r k) (node_at r j))
-
 ordered_exact : (r : Row) (j k : Variable) (b : Bool) → Exact r → Exact (ordered_by r j k b)
 ordered_exact r j k true h v =
-    ap (λ (f : ℕ). depends_on f v) (table_ordered r j k true) ∙ depends_swapped r.table j k v ∙ h (swap_variable j k v)
+    depends_swapped r.table j k v ∙ h (swap_variable j k v)
     ∙ ap (λ (n : Node). ltb 0 n.number) (sym (node_at-exchanged r (swapped r.table j k) j k v))
 ordered_exact r j k false h v = subst Exact (sym (ordered_idle r j k)) h v
 
@@ -279,30 +246,13 @@ after_same : (x : Node) → After x x
 after_same x h = (h, omega arith)
 
 after_trans : (x y z : Node) → After x y → After y z → After x z
-after_trans x y z p q h = let b = q h in let a = p b.0 in (a.0, omega (arith, a.1, b.1))
-
-positive : (k : ℕ) → (k ≡ 0 → ⊥) → 0 < k
-positive k h = elim (cases_lt 0 k) [ inl l ↦ l | inr z ↦ let y : k ≡ 0 = omega arith in absurd (h y) ]
+after_trans x y z p q h = grind arith
 
 precedes_true : (m n : Node) → precedes m n ≡ true → After m n
-precedes_true m n e h =
-    let p = and_parts (ltb 0 m.number) (eqb n.number 0 || ltb m.number n.number) e in (
-      ltb-true 0 m.number p.0,
-      elim (or_cases (eqb n.number 0) (ltb m.number n.number) p.1) [
-        | inl z ↦ omega (arith, eqb-true n.number 0 z)
-        | inr l ↦ omega (arith, ltb-true m.number n.number l)
-      ],
-    )
+precedes_true m n e h = grind (arith, ltb-true, eqb-true)
 
 precedes_false : (m n : Node) → precedes m n ≡ false → After n m
-precedes_false m n e h =
-    elim (and_cases (ltb 0 m.number) (eqb n.number 0 || ltb m.number n.number) e) [
-      | inl z ↦ let l : m.number ≤ 0 = ltb-false 0 m.number z in (omega arith, omega arith)
-      | inr z ↦
-          let p = or_parts (eqb n.number 0) (ltb m.number n.number) z in
-          let l : n.number ≤ m.number = ltb-false m.number n.number p.1 in
-          (positive n.number (eqb-false n.number 0 p.0), l)
-    ]
+precedes_false m n e h = grind (arith, ltb-false, eqb-false)
 
 -- the order of two, and what lies before or after both
 
@@ -376,11 +326,11 @@ module _ (p q s t : Node) where
   )
 
 abbrev Sorted : Row → Type 0
-Sorted r = After r.a r.b × After r.b r.c × After r.c r.d
+Sorted r = After r.nodes.a r.nodes.b × After r.nodes.b r.nodes.c × After r.nodes.c r.nodes.d
 
 all_ordered_sorted : (r : Row) → Sorted (all_ordered r)
 unfolding all_ordered ordered
-all_ordered_sorted r = sorted r.a r.b r.c r.d
+all_ordered_sorted r = sorted r.nodes.a r.nodes.b r.nodes.c r.nodes.d
 
 abbrev index : Variable → ℕ
 index V0 = 0
@@ -388,15 +338,9 @@ index V1 = 1
 index V2 = 2
 index V3 = 3
 
-apart_lt : (x y : ℕ) → x ≤ y → (x ≡ y → ⊥) → x < y
-apart_lt x y l h = elim (cases_lt x y) [ inl k ↦ k | inr k ↦ let e : x ≡ y = omega arith in absurd (h e) ]
-
 -- two places in order whose nodes differ
 follows : (r : Row) (v w : Variable) → Once r → (index v ≡ index w → ⊥) → After (node_at r v) (node_at r w) → Follows (number_at r v) (number_at r w)
-follows r v w o d h l =
-    let p = h l in
-    let ne : number_at r v ≡ number_at r w → ⊥ = λ e. elim (o v w e) [ inl same ↦ d (ap index same) | inr z ↦ omega (arith, p.0, z) ] in
-    (p.0, apart_lt (number_at r v) (number_at r w) p.1 ne)
+follows r v w o d h l = grind (arith, h, o v w)
 
 -- ---- tables stay tables
 
@@ -407,7 +351,7 @@ turned_lt : (f : ℕ) (v : Variable) (i : Bool) → f < 65536 → turned f v i <
 turned_lt f v true h = flipped_lt f v
 turned_lt f v false h = h
 
-entered_lt : (f : ℕ) (s : Fanins) → f < 65536 → Small (entered f s)
+entered_lt : (f : ℕ) (s : PerVariable Signal) → f < 65536 → Small (entered f s)
 unfolding entered
 entered_lt f s h =
     let f0 = turned f V0 s.a.inverted in
@@ -422,43 +366,20 @@ grounded_lt r v h = cond_both (eqb (number_at r v) 0) (cofactor r.table v false)
 unified_lt : (r : Row) (j k : Variable) → Small r → Small (unified r j k)
 unfolding unified
 unified_lt r j k h =
-    let b = eqb (number_at r j) (number_at r k) in
-    let f = cond b (joined r.table j k) r.table in
-    subst (λ (t : ℕ). t < 65536) (sym (table_with_node (with_table r f) k (cond b none (node_at r k))))
-    (cond_both b (joined r.table j k) r.table (λ t. t < 65536) (λ e. joined_lt r.table j k) (λ e. h))
+    cond_both (eqb (number_at r j) (number_at r k)) (joined r.table j k) r.table (λ t. t < 65536) (λ e. joined_lt r.table j k) (λ e. h)
 
 ordered_lt : (r : Row) (j k : Variable) → Small r → Small (ordered r j k)
 unfolding ordered
 ordered_lt r j k h =
-    let b = precedes (node_at r k) (node_at r j) in
-    subst (λ (t : ℕ). t < 65536) (sym (table_ordered r j k b))
-    (cond_both b (swapped r.table j k) r.table (λ t. t < 65536) (λ e. swapped_lt r.table j k) (λ e. h))
+    cond_both (precedes (node_at r k) (node_at r j)) (swapped r.table j k) r.table (λ t. t < 65536) (λ e. swapped_lt r.table j k) (λ e. h)
 
-reduced_lt : (f : ℕ) (s : Fanins) → f < 65536 → Small (reduced f s)
-unfolding reduced all_grounded all_unified all_trimmed trimmed all_ordered
-reduced_lt f s h =
-    let r = entered f s in
-    let g0 = grounded r V0 in
-    let g1 = grounded g0 V1 in
-    let g2 = grounded g1 V2 in
-    let u = grounded g2 V3 in
-    let u0 = unified u V0 V1 in
-    let u1 = unified u0 V0 V2 in
-    let u2 = unified u1 V0 V3 in
-    let u3 = unified u2 V1 V2 in
-    let u4 = unified u3 V1 V3 in
-    let o = all_trimmed (unified u4 V2 V3) in
-    let o0 = ordered o V0 V1 in
-    let o1 = ordered o0 V2 V3 in
-    let o2 = ordered o1 V0 V2 in
-    let o3 = ordered o2 V1 V3 in
-    ordered_lt o3 V1 V2 (ordered_lt o2 V1 V3 (ordered_lt o1 V0 V2 (ordered_lt o0 V2 V3 (ordered_lt o V0 V1
-    (unified_lt u4 V2 V3 (unified_lt u3 V1 V3 (unified_lt u2 V1 V2 (unified_lt u1 V0 V3 (unified_lt u0 V0 V2 (unified_lt u V0 V1
-    (grounded_lt g2 V3 (grounded_lt g1 V2 (grounded_lt g0 V1 (grounded_lt r V0 (entered_lt f s h)))))))))))))))
+reduced_lt : (f : ℕ) (s : PerVariable Signal) → f < 65536 → Small (reduced f s)
+unfolding trimmed
+reduced_lt f s h = reduced_keeps Small grounded_lt (λ r j k d. unified_lt r j k) (λ r v q. q) ordered_lt f s (entered_lt f s h)
 
 -- ---- the whole
 
-reduced_sound : (f : ℕ) (s : Fanins) → Sound (reduced f s)
+reduced_sound : (f : ℕ) (s : PerVariable Signal) → Sound (reduced f s)
 unfolding reduced
 reduced_sound f s =
     let g = all_grounded (entered f s) in
@@ -466,20 +387,18 @@ reduced_sound f s =
     all_ordered_sound (all_trimmed u)
     (all_trimmed_exact u (all_unified_unread g (all_grounded_unread (entered f s))), once_shrinks u (all_trimmed u) (all_trimmed_shrinks u) (all_unified_once g))
 
-reduced_sorted : (f : ℕ) (s : Fanins) → Sorted (reduced f s)
+reduced_sorted : (f : ℕ) (s : PerVariable Signal) → Sorted (reduced f s)
 unfolding reduced
 reduced_sorted f s = all_ordered_sorted (all_trimmed (all_unified (all_grounded (entered f s))))
 
 settled_by_zero : (f : ℕ) (b : Bool) → at_zero f ≡ b → at_zero (cond b (complement f) f) ≡ false
-settled_by_zero f true e = value-complement f (setting false false false false) ∙ ap not e
-settled_by_zero f false e = e
+settled_by_zero f b e = grind (arith, value-complement)
 
 settled_by_depends : (f : ℕ) (v : Variable) (b : Bool) → depends_on (cond b (complement f) f) v ≡ depends_on f v
-settled_by_depends f v true = depends_complement f v
-settled_by_depends f v false = refl
+settled_by_depends f v b = grind (arith, depends_complement)
 
 -- the normal form of a table over four signals is in normal form
-pub normal_shape : (f : ℕ) (s : Fanins) → f < 65536 → Normal (normal f s).row
+pub normal_shape : (f : ℕ) (s : PerVariable Signal) → f < 65536 → Normal (normal f s).row
 unfolding normal settled
 normal_shape f s h =
     let r = reduced f s in
@@ -490,10 +409,10 @@ normal_shape f s h =
       ascending_b = follows r V0 V1 (reduced_sound f s).1 (λ e. omega arith) o.0;
       ascending_c = follows r V1 V2 (reduced_sound f s).1 (λ e. omega arith) o.1;
       ascending_d = follows r V2 V3 (reduced_sound f s).1 (λ e. omega arith) o.2;
-      exact = λ v. settled_by_depends r.table v b ∙ (reduced_sound f s).0 v ∙ ap (λ (n : Node). ltb 0 n.number) (sym (node_at-with_table r (cond b (complement r.table) r.table) v));
+      exact = λ v. settled_by_depends r.table v b ∙ (reduced_sound f s).0 v;
       zero = settled_by_zero r.table b refl;
     }
 
 -- and it is the table as a function of the nodes that the signals name
-pub normal_means : (f : ℕ) (s : Fanins) → f < 65536 → Means f s (normal f s)
+pub normal_means : (f : ℕ) (s : PerVariable Signal) → f < 65536 → Means f s (normal f s)
 normal_means f s h = record { lawful = normal_shape f s h; means = λ φ z. normal-value φ z f s }

@@ -1,5 +1,5 @@
 -- Each step to the normal form keeps the function of the nodes.
-use Rattle.std.proofs.Common.{◌≡◌, ℕ, Bool, true, false, cond, not, T, eqb, sym, refl, ap, ◌∙◌, ap₂}
+use Rattle.std.proofs.Common.{◌≡◌, ℕ, Bool, true, false, cond, T, eqb, sym, refl, ap, ◌∙◌, ap₂, arith}
 use Rattle.std.proofs.lemmas.Bool.{eqb-true}
 use Rattle.tables.specs.declared.Variable.{Variable}
 use Rattle.tables.specs.declared.Variable.TheVariants.{V0, V1, V2, V3}
@@ -11,7 +11,8 @@ use Rattle.tables.proofs.Laws.{value-cofactor, value-flipped, value-complement}
 use Rattle.tables.proofs.Swaps.{differ, put-get, value-swapped, value-joined, exchanged_twice, Free, depends_free, joined_own}
 use Rattle.netlists.specs.declared.Node.{Node}
 use Rattle.netlists.specs.declared.Row.{Row}
-use Rattle.netlists.specs.declared.Fanins.{Fanins}
+use Rattle.tables.specs.declared.per_variable.PerVariable.{PerVariable}
+use Rattle.netlists.specs.declared.Signal.{Signal}
 use Rattle.netlists.specs.Netlists.{Assignment, setting_under, row_under, fanins_under}
 use Rattle.netlists.specs.Normal.{none, node_at, with_node, with_table, turned, entered, grounded, unified, trimmed, precedes, ordered, all_grounded, all_unified, all_trimmed, all_ordered, reduced, at_zero, settled, normal}
 
@@ -23,23 +24,14 @@ get-setting φ r V1 = refl
 get-setting φ r V2 = refl
 get-setting φ r V3 = refl
 
-pub row_with_node : (φ : Assignment) (r : Row) (v : Variable) (n : Node) → row_under φ (with_node r v n) ≡ value r.table (put (setting_under φ r) v (φ n.number))
-row_with_node φ r V0 n = refl
-row_with_node φ r V1 n = refl
-row_with_node φ r V2 n = refl
-row_with_node φ r V3 n = refl
-
 setting-with_node : (φ : Assignment) (r : Row) (v : Variable) (n : Node) → setting_under φ (with_node r v n) ≡ put (setting_under φ r) v (φ n.number)
 setting-with_node φ r V0 n = refl
 setting-with_node φ r V1 n = refl
 setting-with_node φ r V2 n = refl
 setting-with_node φ r V3 n = refl
 
-pub table_with_node : (r : Row) (v : Variable) (n : Node) → (with_node r v n).table ≡ r.table
-table_with_node r V0 n = refl
-table_with_node r V1 n = refl
-table_with_node r V2 n = refl
-table_with_node r V3 n = refl
+pub row_with_node : (φ : Assignment) (r : Row) (v : Variable) (n : Node) → row_under φ (with_node r v n) ≡ value r.table (put (setting_under φ r) v (φ n.number))
+row_with_node φ r v n = ap (value r.table) (setting-with_node φ r v n)
 
 pub with_node_same : (r : Row) (v : Variable) → with_node r v (node_at r v) ≡ r
 with_node_same r V0 = refl
@@ -68,10 +60,9 @@ ordered_idle r j k = ap (λ (q : Row). with_node q k (node_at r k)) (with_node_s
 -- ---- values
 
 value-turned : (f : ℕ) (v : Variable) (i : Bool) (x : Setting) → value (turned f v i) x ≡ value f (put x v (inverted i (get x v)))
-value-turned f v true x = value-flipped f v x
-value-turned f v false x = ap (value f) (sym (put-get x v))
+value-turned f v i x = grind (arith, value-flipped, put-get)
 
-entered-value : (φ : Assignment) (f : ℕ) (s : Fanins) → row_under φ (entered f s) ≡ value f (fanins_under φ s)
+entered-value : (φ : Assignment) (f : ℕ) (s : PerVariable Signal) → row_under φ (entered f s) ≡ value f (fanins_under φ s)
 unfolding entered
 entered-value φ f s =
     let x = setting_under φ (entered f s) in
@@ -121,7 +112,7 @@ ordered_by_value φ r j k true =
     let q = with_table r (swapped r.table j k) in
     let x = setting_under φ r in
     row_with_node φ (with_node q j (node_at r k)) k (node_at r j)
-    ∙ ap₂ (λ (f : ℕ) (y : Setting). value f (put y k (φ (node_at r j).number))) (table_with_node q j (node_at r k)) (setting-with_node φ q j (node_at r k))
+    ∙ ap (λ (y : Setting). value q.table (put y k (φ (node_at r j).number))) (setting-with_node φ q j (node_at r k))
     ∙ ap₂ (λ (s t : Bool). value (swapped r.table j k) (put (put x j s) k t)) (sym (get-setting φ r k)) (sym (get-setting φ r j))
     ∙ value-swapped r.table j k (exchanged x j k)
     ∙ ap (value r.table) (exchanged_twice x j k)
@@ -133,60 +124,25 @@ ordered-value φ r j k = ordered_by_value φ r j k (precedes (node_at r k) (node
 
 -- ---- the whole
 
-all_grounded-value : (φ : Assignment) → φ 0 ≡ false → (r : Row) → row_under φ (all_grounded r) ≡ row_under φ r
-unfolding all_grounded
-all_grounded-value φ z r =
-    let r0 = grounded r V0 in
-    let r1 = grounded r0 V1 in
-    let r2 = grounded r1 V2 in
-    grounded-value φ z r2 V3 ∙ grounded-value φ z r1 V2 ∙ grounded-value φ z r0 V1 ∙ grounded-value φ z r V0
+-- what holds of the row that is entered, and is kept by each step, holds of the reduced row
+pub reduced_keeps : (P : Row → Type 0) → ((r : Row) (v : Variable) → P r → P (grounded r v)) → ((r : Row) (j k : Variable) → T (differ k j) → P r → P (unified r j k))
+    → ((r : Row) (v : Variable) → P r → P (trimmed r v)) → ((r : Row) (j k : Variable) → P r → P (ordered r j k)) → (f : ℕ) (s : PerVariable Signal) → P (entered f s) → P (reduced f s)
+unfolding reduced all_grounded all_unified all_trimmed all_ordered
+reduced_keeps P g u t o f s h =
+    o _ V1 V2 (o _ V1 V3 (o _ V0 V2 (o _ V2 V3 (o _ V0 V1
+    (t _ V3 (t _ V2 (t _ V1 (t _ V0
+    (u _ V2 V3 tt (u _ V1 V3 tt (u _ V1 V2 tt (u _ V0 V3 tt (u _ V0 V2 tt (u _ V0 V1 tt
+    (g _ V3 (g _ V2 (g _ V1 (g _ V0 h))))))))))))))))))
 
-all_unified-value : (φ : Assignment) (r : Row) → row_under φ (all_unified r) ≡ row_under φ r
-unfolding all_unified
-all_unified-value φ r =
-    let r0 = unified r V0 V1 in
-    let r1 = unified r0 V0 V2 in
-    let r2 = unified r1 V0 V3 in
-    let r3 = unified r2 V1 V2 in
-    let r4 = unified r3 V1 V3 in
-    unified-value φ r4 V2 V3 tt ∙ unified-value φ r3 V1 V3 tt ∙ unified-value φ r2 V1 V2 tt
-    ∙ unified-value φ r1 V0 V3 tt ∙ unified-value φ r0 V0 V2 tt ∙ unified-value φ r V0 V1 tt
-
-all_trimmed-value : (φ : Assignment) (r : Row) → row_under φ (all_trimmed r) ≡ row_under φ r
-unfolding all_trimmed
-all_trimmed-value φ r =
-    let r0 = trimmed r V0 in
-    let r1 = trimmed r0 V1 in
-    let r2 = trimmed r1 V2 in
-    trimmed-value φ r2 V3 ∙ trimmed-value φ r1 V2 ∙ trimmed-value φ r0 V1 ∙ trimmed-value φ r V0
-
-all_ordered-value : (φ : Assignment) (r : Row) → row_under φ (all_ordered r) ≡ row_under φ r
-unfolding all_ordered
-all_ordered-value φ r =
-    let r0 = ordered r V0 V1 in
-    let r1 = ordered r0 V2 V3 in
-    let r2 = ordered r1 V0 V2 in
-    let r3 = ordered r2 V1 V3 in
-    ordered-value φ r3 V1 V2 ∙ ordered-value φ r2 V1 V3 ∙ ordered-value φ r1 V0 V2 ∙ ordered-value φ r0 V2 V3 ∙ ordered-value φ r V0 V1
-
-pub reduced-value : (φ : Assignment) → φ 0 ≡ false → (f : ℕ) (s : Fanins) → row_under φ (reduced f s) ≡ value f (fanins_under φ s)
-unfolding reduced
+pub reduced-value : (φ : Assignment) → φ 0 ≡ false → (f : ℕ) (s : PerVariable Signal) → row_under φ (reduced f s) ≡ value f (fanins_under φ s)
 reduced-value φ z f s =
-    let r0 = entered f s in
-    let r1 = all_grounded r0 in
-    let r2 = all_unified r1 in
-    let r3 = all_trimmed r2 in
-    all_ordered-value φ r3 ∙ all_trimmed-value φ r2 ∙ all_unified-value φ r1 ∙ all_grounded-value φ z r0 ∙ entered-value φ f s
-
-not-not : (b : Bool) → not (not b) ≡ b
-not-not true = refl
-not-not false = refl
+    reduced_keeps (λ r. row_under φ r ≡ value f (fanins_under φ s)) (λ r v h. grounded-value φ z r v ∙ h) (λ r j k d h. unified-value φ r j k d ∙ h)
+    (λ r v h. trimmed-value φ r v ∙ h) (λ r j k h. ordered-value φ r j k ∙ h) f s (entered-value φ f s)
 
 settled_by : (f : ℕ) (x : Setting) (b : Bool) → inverted b (value (cond b (complement f) f) x) ≡ value f x
-settled_by f x true = ap not (value-complement f x) ∙ not-not (value f x)
-settled_by f x false = refl
+settled_by f x b = grind (arith, value-complement f x)
 
 -- the form is f at the values of the signals
-pub normal-value : (φ : Assignment) → φ 0 ≡ false → (f : ℕ) (s : Fanins) → inverted (normal f s).inverted (row_under φ (normal f s).row) ≡ value f (fanins_under φ s)
+pub normal-value : (φ : Assignment) → φ 0 ≡ false → (f : ℕ) (s : PerVariable Signal) → inverted (normal f s).inverted (row_under φ (normal f s).row) ≡ value f (fanins_under φ s)
 unfolding normal settled
 normal-value φ z f s = settled_by (reduced f s).table (setting_under φ (reduced f s)) (at_zero (reduced f s).table) ∙ reduced-value φ z f s

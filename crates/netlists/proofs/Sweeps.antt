@@ -1,7 +1,7 @@
 -- A netlist placed row by row into an empty network comes out as itself, and the sweep keeps every output's value.
-use Rattle.std.proofs.Common.{◌≡◌, ℕ, zero, suc, ◌+◌, ◌-◌, ◌<◌, ◌≤◌, Bool, true, false, ◌||◌, eqb, List, [], ◌∷◌, ◌++◌, map, length, get_or, Ok, Result, sym, refl, ap, ◌∙◌, subst, ap₂, inl, inr, le_of_suc-le-suc, not-suc-le-zero, arith}
+use Rattle.std.proofs.Common.{◌≡◌, ℕ, zero, suc, ◌+◌, ◌<◌, ◌≤◌, Bool, true, false, eqb, List, [], ◌∷◌, ◌++◌, map, length, get_or, Ok, Result, sym, refl, ap, ◌∙◌, subst, ap₂, inl, inr, le_of_suc-le-suc, not-suc-le-zero, arith}
 use Rattle.std.proofs.lemmas.List.{append-nil, append_assoc, length_push, length-map, get_or-map, ext_get_or}
-use Rattle.std.proofs.lemmas.Bool.{le-leb, leb-true, cases_lt, or_cases, or_left, or_right, eqb-true, eq-eqb}
+use Rattle.std.proofs.lemmas.Bool.{le-leb, leb-true, cases_lt, or_left, or_right, eq-eqb}
 use Rattle.tables.specs.declared.Variable.{Variable}
 use Rattle.tables.specs.declared.Variable.TheVariants.{V0, V1, V2, V3}
 use Rattle.tables.specs.Bits.{inverted}
@@ -58,13 +58,13 @@ module _ (o : Ownership) (size : ℕ) (n : Netlist) (law : Lawful o size n) (kee
       let p2 : length (false ∷ xs) + k ≡ i + 1 + k = omega arith in
       let one = λ (v : Variable). before (node_at (row k) v).number (earlier v) (opens v) in
       let below : (v : Variable) → (node_at (relabel keep i (row k)) v).number < length (false ∷ xs) + r = every_variable_lem (λ v. (node_at (relabel keep i (row k)) v).number < length (false ∷ xs) + r)
-      (small (row k).a.number k (earlier V0) (opens V0) p) (small (row k).b.number k (earlier V1) (opens V1) p)
-      (small (row k).c.number k (earlier V2) (opens V2) p) (small (row k).d.number k (earlier V3) (opens V3) p) in
+      (small (row k).nodes.a.number k (earlier V0) (opens V0) p) (small (row k).nodes.b.number k (earlier V1) (opens V1) p)
+      (small (row k).nodes.c.number k (earlier V2) (opens V2) p) (small (row k).nodes.d.number k (earlier V3) (opens V3) p) in
       ap now (sym p)
       ∙ row_value (false ∷ xs) c.netlist.rows r (omega arith) (subst (λ (x : Row). (v : Variable) → (node_at x v).number < length (false ∷ xs) + r) (sym e) below)
       ∙ ap (row_under now) e
-      ∙ ap₂ (λ (a b : Bool). value (row k).table (record { a = a; b = b; c = now (renumber keep i (row k).c.number); d = now (renumber keep i (row k).d.number) })) (one V0) (one V1)
-      ∙ ap₂ (λ (a b : Bool). value (row k).table (record { a = old (row k).a.number; b = old (row k).b.number; c = a; d = b })) (one V2) (one V3)
+      ∙ ap₂ (λ (a b : Bool). value (row k).table (record { a = a; b = b; c = now (renumber keep i (row k).nodes.c.number); d = now (renumber keep i (row k).nodes.d.number) })) (one V0) (one V1)
+      ∙ ap₂ (λ (a b : Bool). value (row k).table (record { a = old (row k).nodes.a.number; b = old (row k).nodes.b.number; c = a; d = b })) (one V2) (one V3)
       ∙ sym (row_value (false ∷ xs) n.rows k h (λ v. let g = earlier v in omega (arith, g, p2)))
       ∙ ap old p2
     where
@@ -97,8 +97,7 @@ abbrev with_outputs : Netlist → List Signal → Netlist
 with_outputs m ss = record { inputs = m.inputs; rows = m.rows; outputs = ss }
 
 inverted_plain : (b : Bool) → inverted b false ≡ b
-inverted_plain true = refl
-inverted_plain false = refl
+inverted_plain b = grind arith
 
 through_is : (sig : List Signal) (ρ : ℕ → ℕ) (s : Signal) → get_or sig s.node.number no_signal ≡ plain (ρ s.node.number) → through sig s ≡ relabel_signal ρ s
 through_is sig ρ s e =
@@ -175,45 +174,27 @@ module _ (o : Ownership) (places size : ℕ) (n : Netlist) (law : Lawful o size 
 
 -- ---- reached rows have reached nodes
 
-four_right : (a b c d e : Bool) → e ≡ true → (a || (b || (c || (d || e)))) ≡ true
-four_right a b c d e h = or_right a (b || (c || (d || e))) (or_right b (c || (d || e)) (or_right c (d || e) (or_right d e h)))
-
 claim_keeps : (m k : ℕ) (r : Row) (ws : List ℕ) → has m ws ≡ true → has m (claim k r ws) ≡ true
 unfolding claim
-claim_keeps m k r ws h = go (has k ws)
-  where
-    go : (b : Bool) → has m (elim b [ true ↦ nodes_of r ++ ws | false ↦ ws ]) ≡ true
-    go true = four_right (eqb m r.a.number) (eqb m r.b.number) (eqb m r.c.number) (eqb m r.d.number) (has m ws) h
-    go false = h
+claim_keeps m k r ws h = grind arith
 
 claim_new : (m k : ℕ) (r : Row) (ws : List ℕ) → ((v : Variable) → (node_at r v).number < m) → has m (claim k r ws) ≡ true → has m ws ≡ true
 unfolding claim
 claim_new m k r ws early h = go (has k ws) h
   where
-    other : (x : ℕ) → x < m → (rest : Bool) → (eqb m x || rest) ≡ true → rest ≡ true
-    other x l rest e = elim (or_cases (eqb m x) rest e) [ inl q ↦ let p = eqb-true m x q in absurd (omega arith) | inr q ↦ q ]
-
     go : (b : Bool) → has m (elim b [ true ↦ nodes_of r ++ ws | false ↦ ws ]) ≡ true → has m ws ≡ true
-    go true e =
-        let w = has m ws in
-        let d = eqb m r.d.number || w in
-        let c = eqb m r.c.number || d in
-        let b = eqb m r.b.number || c in
-        other r.d.number (early V3) w (other r.c.number (early V2) d (other r.b.number (early V1) c (other r.a.number (early V0) b e)))
+    go true e = grind (arith, early V0, early V1, early V2, early V3)
     go false e = e
 
 claim_nodes : (k : ℕ) (r : Row) (ws : List ℕ) → has k ws ≡ true → (v : Variable) → has (node_at r v).number (claim k r ws) ≡ true
 unfolding claim
 claim_nodes k r ws h v = subst (λ (b : Bool). has (node_at r v).number (elim b [ true ↦ nodes_of r ++ ws | false ↦ ws ]) ≡ true) (sym h) (go v)
   where
-    here : (m : ℕ) (rest : Bool) → (eqb m m || rest) ≡ true
-    here m rest = or_left (eqb m m) rest (eq-eqb m m refl)
-
     go : (v : Variable) → has (node_at r v).number (nodes_of r ++ ws) ≡ true
-    go V0 = here r.a.number _
-    go V1 = or_right (eqb r.b.number r.a.number) _ (here r.b.number _)
-    go V2 = or_right (eqb r.c.number r.a.number) _ (or_right (eqb r.c.number r.b.number) _ (here r.c.number _))
-    go V3 = or_right (eqb r.d.number r.a.number) _ (or_right (eqb r.d.number r.b.number) _ (or_right (eqb r.d.number r.c.number) _ (here r.d.number _)))
+    go V0 = grind (arith, eq-eqb)
+    go V1 = grind (arith, eq-eqb)
+    go V2 = grind (arith, eq-eqb)
+    go V3 = grind (arith, eq-eqb)
 
 pub claims_keeps : (m b : ℕ) (rs : List Row) (ws : List ℕ) → has m ws ≡ true → has m (claims b rs ws) ≡ true
 unfolding claims
@@ -281,19 +262,10 @@ rank_every i zero = refl
 rank_every i (suc k) = let e = rank_every i k in omega arith
 
 renumber_every : (i m : ℕ) → renumber every i m ≡ m
-renumber_every i m =
-    elim (cases_lt i m) [
-      | inl l ↦
-          let q : m ≡ i + 1 + (m - (i + 1)) = omega arith in
-          let e = rank_every i (m - (i + 1)) in
-          ap (renumber every i) q ∙ of_row every i (m - (i + 1)) ∙ omega arith
-      | inr l ↦ of_input every i m l
-    ]
+renumber_every i m = grind (arith, rank_every, of_input)
 
 relabel_every : (i : ℕ) (r : Row) → relabel every i r ≡ r
-relabel_every i r =
-    let e = renumber_every i in
-    alike (relabel every i r) r refl (e r.a.number) (e r.b.number) (e r.c.number) (e r.d.number)
+relabel_every i r = grind (arith, renumber_every, alike)
 
 signals_every : (i : ℕ) (ss : List Signal) → map (relabel_signal (renumber every i)) ss ≡ ss
 signals_every i [] = refl

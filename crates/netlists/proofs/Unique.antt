@@ -1,6 +1,6 @@
 -- The normal form is unique: two forms that are the same function of the nodes are one.
-use Rattle.std.proofs.Common.{◌≡◌, ℕ, zero, suc, ◌<◌, ◌≤◌, Bool, true, false, cond, eqb, ◌⊎◌, sym, refl, ap, ◌∙◌, subst, ap₂, inl, inr, arith}
-use Rattle.std.proofs.lemmas.Bool.{eq-eqb, ne_eqb, lt-ltb, cases_lt, cases_eq, false≢true}
+use Rattle.std.proofs.Common.{◌≡◌, ℕ, ◌<◌, ◌≤◌, Bool, false, cond, eqb, ◌⊎◌, sym, refl, ap, ◌∙◌, subst, ap₂, inl, inr, arith}
+use Rattle.std.proofs.lemmas.Bool.{ne_eqb, lt-ltb, cases_lt, cases_eq, false≢true}
 use Rattle.tables.specs.declared.Variable.{Variable}
 use Rattle.tables.specs.declared.Variable.TheVariants.{V0, V1, V2, V3}
 use Rattle.tables.specs.Bits.{inverted}
@@ -9,7 +9,8 @@ use Rattle.tables.specs.Tables.{value}
 use Rattle.tables.proofs.Laws.{same_values}
 use Rattle.tables.proofs.Swaps.{every_variable_lem, put-get, Free, free_depends}
 use Rattle.netlists.specs.declared.Row.{Row}
-use Rattle.netlists.specs.declared.Fanins.{Fanins}
+use Rattle.tables.specs.declared.per_variable.PerVariable.{PerVariable}
+use Rattle.netlists.specs.declared.Signal.{Signal}
 use Rattle.netlists.specs.declared.Form.{Form}
 use Rattle.netlists.specs.Netlists.{Assignment, setting_under, row_under}
 use Rattle.netlists.specs.Normal.{node_at, with_table, normal}
@@ -22,13 +23,7 @@ use Rattle.netlists.proofs.Shapes.{normal_means}
 
 abbrev assign : Row → Setting → Assignment
 assign r x n =
-    cond (eqb n 0) false (cond (eqb n r.a.number) x.a (cond (eqb n r.b.number) x.b (cond (eqb n r.c.number) x.c (cond (eqb n r.d.number) x.d false))))
-
-skip : (m n : ℕ) (p q : Bool) → (m ≡ n → ⊥) → cond (eqb m n) p q ≡ q
-skip m n p q h = ap (λ (b : Bool). cond b p q) (ne_eqb m n h)
-
-hit : (m : ℕ) (p q : Bool) → cond (eqb m m) p q ≡ p
-hit m p q = ap (λ (b : Bool). cond b p q) (eq-eqb m m refl)
+    cond (eqb n 0) false (cond (eqb n r.nodes.a.number) x.a (cond (eqb n r.nodes.b.number) x.b (cond (eqb n r.nodes.c.number) x.c (cond (eqb n r.nodes.d.number) x.d false))))
 
 -- settings that differ only where the table does not look
 step : (f : ℕ) (v : Variable) (z : Setting) (t : Bool) → (get z v ≡ t) ⊎ Free f v → value f (put z v t) ≡ value f z
@@ -46,16 +41,16 @@ same_but_free f x y h =
 
 module _ (r : Row) (law : Normal r) where
   abbrev a : ℕ
-  a = r.a.number
+  a = r.nodes.a.number
 
   abbrev b : ℕ
-  b = r.b.number
+  b = r.nodes.b.number
 
   abbrev c : ℕ
-  c = r.c.number
+  c = r.nodes.c.number
 
   abbrev d : ℕ
-  d = r.d.number
+  d = r.nodes.d.number
 
   b_used : 0 < b → (0 < a) × (a < b)
   b_used = law.ascending_b
@@ -68,20 +63,16 @@ module _ (r : Row) (law : Normal r) where
 
   -- a place is used or not, and what is used is found again
   assign_a : (x : Setting) → 0 < a → assign r x a ≡ x.a
-  assign_a x h = skip a 0 _ _ (λ e. omega arith) ∙ hit a _ _
+  assign_a x h = grind (arith, b_used, c_used, d_used)
 
   assign_b : (x : Setting) → 0 < b → assign r x b ≡ x.b
-  assign_b x h = let p = b_used h in skip b 0 _ _ (λ e. omega arith) ∙ skip b a _ _ (λ e. omega (arith, p.1)) ∙ hit b _ _
+  assign_b x h = grind (arith, b_used, c_used, d_used)
 
   assign_c : (x : Setting) → 0 < c → assign r x c ≡ x.c
-  assign_c x h =
-      let p = c_used h in
-      skip c 0 _ _ (λ e. omega arith) ∙ skip c a _ _ (λ e. omega (arith, p.1, p.2)) ∙ skip c b _ _ (λ e. omega (arith, p.2)) ∙ hit c _ _
+  assign_c x h = grind (arith, b_used, c_used, d_used)
 
   assign_d : (x : Setting) → 0 < d → assign r x d ≡ x.d
-  assign_d x h =
-      let p = d_used h in
-      skip d 0 _ _ (λ e. omega arith) ∙ skip d a _ _ (λ e. omega (arith, p.1, p.2, p.3)) ∙ skip d b _ _ (λ e. omega (arith, p.2, p.3)) ∙ skip d c _ _ (λ e. omega (arith, p.3)) ∙ hit d _ _
+  assign_d x h = grind (arith, b_used, c_used, d_used)
 
   used_or_free : (x : Setting) (v : Variable) → (0 < (node_at r v).number → assign r x (node_at r v).number ≡ get x v)
       → (assign r x (node_at r v).number ≡ get x v) ⊎ Free r.table v
@@ -99,32 +90,27 @@ module _ (r : Row) (law : Normal r) where
 
 -- another node does not see the value at v
 agree : (r : Row) (x : Setting) (t : Bool) (m : ℕ) (v : Variable) → (m ≡ (node_at r v).number → ⊥) → assign r (put x v t) m ≡ assign r x m
-agree r x t m V0 h = ap (λ (z : Bool). cond (eqb m 0) false z) (skip m r.a.number t _ h ∙ sym (skip m r.a.number x.a _ h))
-agree r x t m V1 h =
-    ap (λ (z : Bool). cond (eqb m 0) false (cond (eqb m r.a.number) x.a z)) (skip m r.b.number t _ h ∙ sym (skip m r.b.number x.b _ h))
-agree r x t m V2 h =
-    ap (λ (z : Bool). cond (eqb m 0) false (cond (eqb m r.a.number) x.a (cond (eqb m r.b.number) x.b z)))
-    (skip m r.c.number t _ h ∙ sym (skip m r.c.number x.c _ h))
-agree r x t m V3 h =
-    ap (λ (z : Bool). cond (eqb m 0) false (cond (eqb m r.a.number) x.a (cond (eqb m r.b.number) x.b (cond (eqb m r.c.number) x.c z))))
-    (skip m r.d.number t _ h ∙ sym (skip m r.d.number x.d _ h))
+agree r x t m V0 h = grind (arith, ne_eqb)
+agree r x t m V1 h = grind (arith, ne_eqb)
+agree r x t m V2 h = grind (arith, ne_eqb)
+agree r x t m V3 h = grind (arith, ne_eqb)
 
 -- the same function of the nodes, node 0 being false
 abbrev Same : Row → Row → Type 0
 Same r q = (φ : Assignment) → φ 0 ≡ false → row_under φ r ≡ row_under φ q
 
 abbrev Among : ℕ → Row → Type 0
-Among n q = (n ≡ q.a.number) ⊎ ((n ≡ q.b.number) ⊎ ((n ≡ q.c.number) ⊎ (n ≡ q.d.number)))
+Among n q = (n ≡ q.nodes.a.number) ⊎ ((n ≡ q.nodes.b.number) ⊎ ((n ≡ q.nodes.c.number) ⊎ (n ≡ q.nodes.d.number)))
 
 among : (n : ℕ) (q : Row) → Among n q ⊎ ((w : Variable) → (node_at q w).number ≡ n → ⊥)
 among n q =
-    elim (cases_eq n q.a.number) [
+    elim (cases_eq n q.nodes.a.number) [
       | inl e ↦ inl (inl e)
-      | inr p ↦ elim (cases_eq n q.b.number) [
+      | inr p ↦ elim (cases_eq n q.nodes.b.number) [
         | inl e ↦ inl (inr (inl e))
-        | inr s ↦ elim (cases_eq n q.c.number) [
+        | inr s ↦ elim (cases_eq n q.nodes.c.number) [
           | inl e ↦ inl (inr (inr (inl e)))
-          | inr t ↦ elim (cases_eq n q.d.number) [
+          | inr t ↦ elim (cases_eq n q.nodes.d.number) [
             | inl e ↦ inl (inr (inr (inr e)))
             | inr u ↦ inr (every_variable_lem (λ w. (node_at q w).number ≡ n → ⊥) (λ e. p (sym e)) (λ e. s (sym e)) (λ e. t (sym e)) (λ e. u (sym e)))
           ]
@@ -149,68 +135,53 @@ found_again r q law same v h =
 -- ---- nodes ascend, so what is among them lies past the places before it
 
 module _ (q : Row) (law : Normal q) (n : ℕ) (pos : 0 < n) where
-  past_none : Among n q → (0 < q.a.number) × (q.a.number ≤ n)
-  past_none (inl e) = (omega arith, omega arith)
-  past_none (inr (inl e)) = let l : 0 < q.b.number = omega arith in let p = b_used q law l in (p.0, omega (arith, p.1))
-  past_none (inr (inr (inl e))) = let l : 0 < q.c.number = omega arith in let p = c_used q law l in (p.0, omega (arith, p.1, p.2))
-  past_none (inr (inr (inr e))) = let l : 0 < q.d.number = omega arith in let p = d_used q law l in (p.0, omega (arith, p.1, p.2, p.3))
+  past_none : Among n q → (0 < q.nodes.a.number) × (q.nodes.a.number ≤ n)
+  past_none e = grind (arith, b_used q law, c_used q law, d_used q law)
 
-  past_a : q.a.number < n → Among n q → (0 < q.b.number) × (q.b.number ≤ n)
-  past_a h (inl e) = absurd (omega arith)
-  past_a h (inr (inl e)) = (omega arith, omega arith)
-  past_a h (inr (inr (inl e))) = let l : 0 < q.c.number = omega arith in let p = c_used q law l in (omega (arith, p.1), omega (arith, p.2))
-  past_a h (inr (inr (inr e))) = let l : 0 < q.d.number = omega arith in let p = d_used q law l in (omega (arith, p.1), omega (arith, p.2, p.3))
+  past_a : q.nodes.a.number < n → Among n q → (0 < q.nodes.b.number) × (q.nodes.b.number ≤ n)
+  past_a h e = grind (arith, b_used q law, c_used q law, d_used q law)
 
-  past_b : q.a.number < q.b.number → q.b.number < n → Among n q → (0 < q.c.number) × (q.c.number ≤ n)
-  past_b k h (inl e) = absurd (omega arith)
-  past_b k h (inr (inl e)) = absurd (omega arith)
-  past_b k h (inr (inr (inl e))) = (omega arith, omega arith)
-  past_b k h (inr (inr (inr e))) = let l : 0 < q.d.number = omega arith in let p = d_used q law l in (omega (arith, p.2), omega (arith, p.3))
+  past_b : q.nodes.a.number < q.nodes.b.number → q.nodes.b.number < n → Among n q → (0 < q.nodes.c.number) × (q.nodes.c.number ≤ n)
+  past_b k h e = grind (arith, b_used q law, c_used q law, d_used q law)
 
-  past_c : q.a.number < q.b.number → q.b.number < q.c.number → q.c.number < n → Among n q → (0 < q.d.number) × (q.d.number ≤ n)
-  past_c j k h (inl e) = absurd (omega arith)
-  past_c j k h (inr (inl e)) = absurd (omega arith)
-  past_c j k h (inr (inr (inl e))) = absurd (omega arith)
-  past_c j k h (inr (inr (inr e))) = (omega arith, omega arith)
+  past_c : q.nodes.a.number < q.nodes.b.number → q.nodes.b.number < q.nodes.c.number → q.nodes.c.number < n → Among n q → (0 < q.nodes.d.number) × (q.nodes.d.number ≤ n)
+  past_c j k h e = grind (arith, b_used q law, c_used q law, d_used q law)
 
 -- x and y are used together, and neither lies past the other
 meet : (x y : ℕ) → (0 < x → (0 < y) × (y ≤ x)) → (0 < y → (0 < x) × (x ≤ y)) → x ≡ y
-meet zero zero f g = refl
-meet zero (suc y) f g = let p = g (omega arith) in absurd (omega (arith, p.0))
-meet (suc x) zero f g = let p = f (omega arith) in absurd (omega (arith, p.0))
-meet (suc x) (suc y) f g = let p = f (omega arith) in let q = g (omega arith) in omega (arith, p.1, q.1)
+meet x y f g = grind arith
 
 module _ (r q : Row) (law : Normal r) (rule : Normal q) (same : Same r q) where
   back : Same q r
   back φ z = sym (same φ z)
 
-  same_a : r.a.number ≡ q.a.number
+  same_a : r.nodes.a.number ≡ q.nodes.a.number
   same_a =
-      meet r.a.number q.a.number
-      (λ h. past_none q rule r.a.number h (found_again r q law same V0 h))
-      (λ h. past_none r law q.a.number h (found_again q r rule back V0 h))
+      meet r.nodes.a.number q.nodes.a.number
+      (λ h. past_none q rule r.nodes.a.number h (found_again r q law same V0 h))
+      (λ h. past_none r law q.nodes.a.number h (found_again q r rule back V0 h))
 
-  same_b : r.b.number ≡ q.b.number
+  same_b : r.nodes.b.number ≡ q.nodes.b.number
   same_b =
-      meet r.b.number q.b.number
-      (λ h. past_a q rule r.b.number h (let e = same_a in let p = b_used r law h in omega (arith, p.1)) (found_again r q law same V1 h))
-      (λ h. past_a r law q.b.number h (let e = same_a in let p = b_used q rule h in omega (arith, p.1)) (found_again q r rule back V1 h))
+      meet r.nodes.b.number q.nodes.b.number
+      (λ h. past_a q rule r.nodes.b.number h (let e = same_a in let p = b_used r law h in omega (arith, p.1)) (found_again r q law same V1 h))
+      (λ h. past_a r law q.nodes.b.number h (let e = same_a in let p = b_used q rule h in omega (arith, p.1)) (found_again q r rule back V1 h))
 
-  same_c : r.c.number ≡ q.c.number
+  same_c : r.nodes.c.number ≡ q.nodes.c.number
   same_c =
-      meet r.c.number q.c.number
+      meet r.nodes.c.number q.nodes.c.number
       (λ h. let e = same_a in let f = same_b in let p = c_used r law h in
-      past_b q rule r.c.number h (omega (arith, p.1)) (omega (arith, p.2)) (found_again r q law same V2 h))
+      past_b q rule r.nodes.c.number h (omega (arith, p.1)) (omega (arith, p.2)) (found_again r q law same V2 h))
       (λ h. let e = same_a in let f = same_b in let p = c_used q rule h in
-      past_b r law q.c.number h (omega (arith, p.1)) (omega (arith, p.2)) (found_again q r rule back V2 h))
+      past_b r law q.nodes.c.number h (omega (arith, p.1)) (omega (arith, p.2)) (found_again q r rule back V2 h))
 
-  same_d : r.d.number ≡ q.d.number
+  same_d : r.nodes.d.number ≡ q.nodes.d.number
   same_d =
-      meet r.d.number q.d.number
+      meet r.nodes.d.number q.nodes.d.number
       (λ h. let e = same_a in let f = same_b in let g = same_c in let p = d_used r law h in
-      past_c q rule r.d.number h (omega (arith, p.1)) (omega (arith, p.2)) (omega (arith, p.3)) (found_again r q law same V3 h))
+      past_c q rule r.nodes.d.number h (omega (arith, p.1)) (omega (arith, p.2)) (omega (arith, p.3)) (found_again r q law same V3 h))
       (λ h. let e = same_a in let f = same_b in let g = same_c in let p = d_used q rule h in
-      past_c r law q.d.number h (omega (arith, p.1)) (omega (arith, p.2)) (omega (arith, p.3)) (found_again q r rule back V3 h))
+      past_c r law q.nodes.d.number h (omega (arith, p.1)) (omega (arith, p.2)) (omega (arith, p.3)) (found_again q r rule back V3 h))
 
   moved : q ≡ with_table r q.table
   moved = made q (with_table r q.table) refl (sym same_a) (sym same_b) (sym same_c) (sym same_d)
@@ -232,20 +203,13 @@ at-nothing : (r : Row) → Normal r → row_under (λ n. false) r ≡ false
 at-nothing r law = law.zero
 
 flip_back : (i : Bool) (s t : Bool) → inverted i s ≡ inverted i t → s ≡ t
-flip_back true true true e = refl
-flip_back true true false e = absurd (false≢true e)
-flip_back true false true e = absurd (false≢true (sym e))
-flip_back true false false e = refl
-flip_back false s t e = e
+flip_back i s t e = grind arith
 
 inverted_false : (i j : Bool) → inverted i false ≡ inverted j false → i ≡ j
-inverted_false true true e = refl
-inverted_false true false e = e
-inverted_false false true e = e
-inverted_false false false e = refl
+inverted_false i j e = grind arith
 
 -- the form of a function of the nodes is unique
-pub unique_form : (f : ℕ) (s : Fanins) (g h : Form) → Means f s g → Means f s h → g ≡ h
+pub unique_form : (f : ℕ) (s : PerVariable Signal) (g h : Form) → Means f s g → Means f s h → g ≡ h
 unique_form f s g h p q =
     let both = λ (φ : Assignment) (z : φ 0 ≡ false). p.means φ z ∙ sym (q.means φ z) in
     let i = inverted_false g.inverted h.inverted (ap (inverted g.inverted) (sym (at-nothing g.row p.lawful)) ∙ both (λ n. false) refl ∙ ap (inverted h.inverted) (at-nothing h.row q.lawful)) in
@@ -253,5 +217,5 @@ unique_form f s g h p q =
     (λ φ z. flip_back h.inverted (row_under φ g.row) (row_under φ h.row) (ap (λ (b : Bool). inverted b (row_under φ g.row)) (sym i) ∙ both φ z)) in
     ap₂ (λ (r : Row) (b : Bool). record { row = r; inverted = b }) e i
 
-pub normal_form_of : (f : ℕ) (s : Fanins) → f < 65536 → FormOf f s (normal f s)
+pub normal_form_of : (f : ℕ) (s : PerVariable Signal) → f < 65536 → FormOf f s (normal f s)
 normal_form_of f s h = record { is = normal_means f s h; only = λ g p. unique_form f s g (normal f s) p (normal_means f s h) }

@@ -1,5 +1,5 @@
 -- The values of the nodes of a netlist.
-use Rattle.std.proofs.Common.{◌≡◌, ℕ, zero, suc, ◌+◌, ◌<◌, ◌≤◌, Bool, true, false, ltb, List, [], ◌∷◌, ◌++◌, length, get_or, sym, refl, ap, ◌∙◌, subst, ap₂, le_of_suc-le-suc, not-suc-le-zero, add-zero, arith, length-append}
+use Rattle.std.proofs.Common.{◌≡◌, ℕ, zero, suc, ◌+◌, ◌<◌, ◌≤◌, Bool, true, false, ltb, List, [], ◌∷◌, ◌++◌, length, get_or, sym, refl, ap, ◌∙◌, subst, le_of_suc-le-suc, not-suc-le-zero, add-zero, arith, length-append}
 use Rattle.std.proofs.lemmas.List.{get_or_append_left, get_or_push}
 use Rattle.std.proofs.lemmas.Bool.{false≢true, ltb-false}
 use Rattle.tables.specs.declared.Variable.{Variable}
@@ -28,9 +28,7 @@ values-append vs (r ∷ rs) ss = values-append (vs ++ row_under (held vs) r ∷ 
 
 -- a row depends on its nodes alone
 pub row_same : (φ ψ : Assignment) (r : Row) → ((v : Variable) → φ (node_at r v).number ≡ ψ (node_at r v).number) → row_under φ r ≡ row_under ψ r
-row_same φ ψ r e =
-    ap₂ (λ (a b : Bool). value r.table (record { a = a; b = b; c = φ r.c.number; d = φ r.d.number })) (e V0) (e V1)
-    ∙ ap₂ (λ (c d : Bool). value r.table (record { a = ψ r.a.number; b = ψ r.b.number; c = c; d = d })) (e V2) (e V3)
+row_same φ ψ r e = grind (arith, e V0, e V1, e V2, e V3)
 
 -- the value of a row is its table at the values of its nodes
 pub row_value : (vs : List Bool) (rs : List Row) (k : ℕ) → k < length rs → ((v : Variable) → (node_at (get_or rs k no_row) v).number < length vs + k)
@@ -79,13 +77,12 @@ pub unused : (r : Row) → Normal r → (v : Variable) → (node_at r v).number 
 unused r h v e = depends_free r.table v (h.exact v ∙ ap (ltb 0) e)
 
 -- a row in normal form over no node or one has the value of that node, node 0 being false
-pub lone_value : (φ : Assignment) → φ 0 ≡ false → (r : Row) → Normal r → r.b.number ≡ 0 → row_under φ r ≡ φ r.a.number
+pub lone_value : (φ : Assignment) → φ 0 ≡ false → (r : Row) → Normal r → r.nodes.b.number ≡ 0 → row_under φ r ≡ φ r.nodes.a.number
 lone_value φ z r h b =
-    let c : r.c.number ≡ 0 = past r.b.number r.c.number b h.ascending_c in
-    let d : r.d.number ≡ 0 = past r.c.number r.d.number c h.ascending_d in
-    lone r.table (unused r h V1 b) (unused r h V2 c) (unused r h V3 d) h.zero (setting_under φ r) (ltb 0 r.a.number) (h.exact V0)
-    (λ e. let l : r.a.number ≤ 0 = ltb-false 0 r.a.number e in let y : r.a.number ≡ 0 = omega arith in ap φ y ∙ z)
+    let c : r.nodes.c.number ≡ 0 = past r.nodes.b.number r.nodes.c.number b h.ascending_c in
+    let d : r.nodes.d.number ≡ 0 = past r.nodes.c.number r.nodes.d.number c h.ascending_d in
+    lone r.table (unused r h V1 b) (unused r h V2 c) (unused r h V3 d) h.zero (setting_under φ r) (ltb 0 r.nodes.a.number) (h.exact V0)
+    (λ e. let l : r.nodes.a.number ≤ 0 = ltb-false 0 r.nodes.a.number e in let y : r.nodes.a.number ≡ 0 = omega arith in ap φ y ∙ z)
   where
     past : (x y : ℕ) → x ≡ 0 → (0 < y → (0 < x) × (x < y)) → y ≡ 0
-    past x zero e f = refl
-    past x (suc y) e f = let p = f (omega arith) in absurd (omega (arith, p.0, e))
+    past x y e f = grind arith

@@ -1,13 +1,14 @@
 -- Netlists placed row by row into another, and the sweep.
-use Rattle.std.specs.Prelude.{◌≡◌, ℕ, zero, suc, ◌+◌, ◌<◌, Bool, true, false, cond, ◌||◌, List, [], ◌∷◌, ◌++◌, map, length, get_or, Ok, Err, Result, ◌==◌, slice_index_or}
+use Rattle.std.specs.Prelude.{◌≡◌, ℕ, zero, suc, ◌+◌, ◌<◌, Bool, true, false, cond, List, [], ◌∷◌, ◌++◌, map, length, get_or, Ok, Err, Result, slice_index_or}
 use Rattle.std.specs.List.{range_with_len}
 use Rattle.tables.specs.declared.Variable.{Variable}
+use Rattle.tables.specs.Lists.{member}
 use Rattle.tables.specs.Bits.{inverted}
 use Rattle.classes.specs.declared.Ownership.{Ownership}
 use Rattle.netlists.specs.declared.Node.{Node}
 use Rattle.netlists.specs.declared.Signal.{Signal}
 use Rattle.netlists.specs.declared.Row.{Row}
-use Rattle.netlists.specs.declared.Fanins.{Fanins}
+use Rattle.tables.specs.declared.per_variable.PerVariable.{PerVariable}
 use Rattle.netlists.specs.declared.Refusal.{Refusal}
 use Rattle.netlists.specs.Netlists.{Netlist, signal_value}
 use Rattle.netlists.specs.Normal.{node_at}
@@ -21,8 +22,8 @@ pub record Copy : Type 0 where
 abbrev pub signal_in : List Signal → Node → Signal
 signal_in ss x = slice_index_or ss x.number no_signal
 
-abbrev pub fanins_in : List Signal → Row → Fanins
-fanins_in ss r = record { a = signal_in ss r.a; b = signal_in ss r.b; c = signal_in ss r.c; d = signal_in ss r.d }
+abbrev pub fanins_in : List Signal → Row → PerVariable Signal
+fanins_in ss r = record { a = signal_in ss r.nodes.a; b = signal_in ss r.nodes.b; c = signal_in ss r.nodes.c; d = signal_in ss r.nodes.d }
 
 -- what follows an accepted call; a refusal stays
 abbrev pub and_then : {A B : Type 0} → Result A Refusal → (A → Result B Refusal) → Result B Refusal
@@ -72,11 +73,10 @@ pub data Reaches (n : Netlist) : ℕ → Type 0 where
   read : (k : ℕ) → k < length n.rows → Reaches n (n.inputs + 1 + k) → (v : Variable) → Reaches n (node_at (slice_index_or n.rows k no_row) v).number
 
 abbrev pub has : ℕ → List ℕ → Bool
-has k [] = false
-has k (x ∷ xs) = k == x || has k xs
+has = member
 
 abbrev pub nodes_of : Row → List ℕ
-nodes_of r = r.a.number ∷ r.b.number ∷ r.c.number ∷ r.d.number ∷ []
+nodes_of r = r.nodes.a.number ∷ r.nodes.b.number ∷ r.nodes.c.number ∷ r.nodes.d.number ∷ []
 
 -- the nodes of a row at node k join those that are reached, where k is reached
 unfoldable pub claim : ℕ → Row → List ℕ → List ℕ

@@ -5,7 +5,7 @@ use Rattle.tables.specs.Settings.{Setting}
 use Rattle.tables.specs.Tables.{value}
 use Rattle.netlists.specs.declared.Signal.{Signal}
 use Rattle.netlists.specs.declared.Row.{Row}
-use Rattle.netlists.specs.declared.Fanins.{Fanins}
+use Rattle.tables.specs.declared.per_variable.PerVariable.{PerVariable}
 
 -- what a network holds
 pub record Netlist : Type 0 where
@@ -23,13 +23,13 @@ signal_under φ s = inverted s.inverted (φ s.node.number)
 
 -- the setting of a row's table at the values of its nodes
 abbrev pub setting_under : Assignment → Row → Setting
-setting_under φ r = record { a = φ r.a.number; b = φ r.b.number; c = φ r.c.number; d = φ r.d.number }
+setting_under φ r = record { a = φ r.nodes.a.number; b = φ r.nodes.b.number; c = φ r.nodes.c.number; d = φ r.nodes.d.number }
 
 abbrev pub row_under : Assignment → Row → Bool
 row_under φ r = value r.table (setting_under φ r)
 
 -- the setting at the values of four signals
-abbrev pub fanins_under : Assignment → Fanins → Setting
+abbrev pub fanins_under : Assignment → PerVariable Signal → Setting
 fanins_under φ s = record { a = signal_under φ s.a; b = signal_under φ s.b; c = signal_under φ s.c; d = signal_under φ s.d }
 
 -- ---- values of a netlist's nodes, listed from node 0 on; a node that is not there counts as false

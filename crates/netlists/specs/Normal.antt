@@ -3,11 +3,13 @@ use Rattle.std.specs.Prelude.{ℕ, Bool, false, cond, ◌&&◌, ◌||◌, ◌==�
 use Rattle.tables.specs.declared.Variable.{Variable}
 use Rattle.tables.specs.declared.Variable.TheVariants.{V0, V1, V2, V3}
 use Rattle.tables.specs.Settings.{setting}
+use Rattle.tables.specs.PerVariable.{at, put}
 use Rattle.tables.specs.Tables.{value, complement, cofactor, depends_on, flipped}
 use Rattle.tables.specs.Swaps.{swapped, joined}
 use Rattle.netlists.specs.declared.Node.{Node}
 use Rattle.netlists.specs.declared.Row.{Row}
-use Rattle.netlists.specs.declared.Fanins.{Fanins}
+use Rattle.tables.specs.declared.per_variable.PerVariable.{PerVariable}
+use Rattle.netlists.specs.declared.Signal.{Signal}
 use Rattle.netlists.specs.declared.Form.{Form}
 
 -- node 0, which also stands at the places that a row does not use
@@ -16,19 +18,13 @@ none = record { number = 0 }
 
 -- the node that is variable v of a row's table
 abbrev pub node_at : Row → Variable → Node
-node_at r V0 = r.a
-node_at r V1 = r.b
-node_at r V2 = r.c
-node_at r V3 = r.d
+node_at r v = at r.nodes v
 
 abbrev pub with_node : Row → Variable → Node → Row
-with_node r V0 n = record { table = r.table; a = n; b = r.b; c = r.c; d = r.d }
-with_node r V1 n = record { table = r.table; a = r.a; b = n; c = r.c; d = r.d }
-with_node r V2 n = record { table = r.table; a = r.a; b = r.b; c = n; d = r.d }
-with_node r V3 n = record { table = r.table; a = r.a; b = r.b; c = r.c; d = n }
+with_node r v n = record { table = r.table; nodes = put r.nodes v n }
 
 abbrev pub with_table : Row → ℕ → Row
-with_table r f = record { table = f; a = r.a; b = r.b; c = r.c; d = r.d }
+with_table r f = record { table = f; nodes = r.nodes }
 
 -- ---- the steps, each of which keeps the function of the nodes; between them the nodes stand in any order
 
@@ -37,13 +33,10 @@ abbrev pub turned : ℕ → Variable → Bool → ℕ
 turned f v i = cond i (flipped f v) f
 
 -- the inversions of the signals go into the table
-unfoldable pub entered : ℕ → Fanins → Row
+unfoldable pub entered : ℕ → PerVariable Signal → Row
 entered f s = record {
   table = turned (turned (turned (turned f V0 s.a.inverted) V1 s.b.inverted) V2 s.c.inverted) V3 s.d.inverted;
-  a = s.a.node;
-  b = s.b.node;
-  c = s.c.node;
-  d = s.d.node;
+  nodes = record { a = s.a.node; b = s.b.node; c = s.c.node; d = s.d.node };
 }
 
 -- node 0 is false: where v is node 0, v is fixed at false
@@ -91,7 +84,7 @@ unfoldable pub all_ordered : Row → Row
 all_ordered r = ordered (ordered (ordered (ordered (ordered r V0 V1) V2 V3) V0 V2) V1 V3) V1 V2
 
 -- f over the signals as a table over the nodes that it depends on, ascending, and then node 0
-unfoldable pub reduced : ℕ → Fanins → Row
+unfoldable pub reduced : ℕ → PerVariable Signal → Row
 reduced f s = all_ordered (all_trimmed (all_unified (all_grounded (entered f s))))
 
 -- the value where every variable is false
@@ -102,5 +95,5 @@ at_zero f = value f (setting false false false false)
 unfoldable pub settled : Row → Form
 settled r = record { row = with_table r (cond (at_zero r.table) (complement r.table) r.table); inverted = at_zero r.table }
 
-unfoldable pub normal : ℕ → Fanins → Form
+unfoldable pub normal : ℕ → PerVariable Signal → Form
 normal f s = settled (reduced f s)

@@ -5,7 +5,7 @@ use Rattle.classes.specs.Owned.{owns}
 use Rattle.netlists.specs.declared.Node.{Node}
 use Rattle.netlists.specs.declared.Signal.{Signal}
 use Rattle.netlists.specs.declared.Row.{Row}
-use Rattle.netlists.specs.declared.Fanins.{Fanins}
+use Rattle.tables.specs.declared.per_variable.PerVariable.{PerVariable}
 use Rattle.netlists.specs.declared.Form.{Form}
 use Rattle.netlists.specs.declared.Refusal.{Refusal}
 use Rattle.netlists.specs.declared.Refusal.TheVariants.{NoSuchNode, NoSuchRow, NoSuchOutput, TooManyInputs, TooManyOutputs, NotOwned, NoPlace}
@@ -17,7 +17,7 @@ use Rattle.netlists.specs.Normal.{none, normal}
 abbrev pub is_there : Netlist → Node → Bool
 is_there n x = nat_le x.number (n.inputs + length n.rows)
 
-abbrev pub all_there : Netlist → Fanins → Bool
+abbrev pub all_there : Netlist → PerVariable Signal → Bool
 all_there n s = is_there n s.a.node && is_there n s.b.node && is_there n s.c.node && is_there n s.d.node
 
 -- the node of row k, counted from 0
@@ -25,15 +25,15 @@ abbrev pub row_node : Netlist → ℕ → Node
 row_node n k = record { number = n.inputs + 1 + k }
 
 abbrev pub no_row : Row
-no_row = record { table = 0; a = none; b = none; c = none; d = none }
+no_row = record { table = 0; nodes = record { a = none; b = none; c = none; d = none } }
 
 abbrev pub no_signal : Signal
 no_signal = record { node = none; inverted = false }
 
 abbrev pub same_row : Row → Row → Bool
 same_row r q =
-    (r.table == q.table) && r.a.number == q.a.number && r.b.number == q.b.number
-    && r.c.number == q.c.number && r.d.number == q.d.number
+    (r.table == q.table) && r.nodes.a.number == q.nodes.a.number && r.nodes.b.number == q.nodes.b.number
+    && r.nodes.c.number == q.nodes.c.number && r.nodes.d.number == q.nodes.d.number
 
 -- the place of the first row alike, or the number of rows where there is none
 unfoldable pub first_alike : Row → List Row → ℕ
@@ -67,13 +67,13 @@ place_row places n r i =
 -- a form over no node or one is a signal; any other has to be owned
 unfoldable pub place_form : Ownership → ℕ → Netlist → Form → Result Placing Refusal
 place_form o places n g =
-    elim (g.row.b.number == 0) [
-      | true ↦ Ok (record { signal = signal_of g.row.a g.inverted; netlist = n })
+    elim (g.row.nodes.b.number == 0) [
+      | true ↦ Ok (record { signal = signal_of g.row.nodes.a g.inverted; netlist = n })
       | false ↦ elim (owns o g.row.table) [ true ↦ place_row places n g.row g.inverted | false ↦ Err NotOwned ]
     ]
 
 -- table f over four signals, in a network with these places
-unfoldable pub after_place : Ownership → ℕ → Netlist → ℕ → Fanins → Result Placing Refusal
+unfoldable pub after_place : Ownership → ℕ → Netlist → ℕ → PerVariable Signal → Result Placing Refusal
 after_place o places n f s = elim (all_there n s) [ true ↦ place_form o places n (normal f s) | false ↦ Err NoSuchNode ]
 
 -- ---- start, output and the questions

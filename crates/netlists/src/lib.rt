@@ -4,7 +4,7 @@
 ghost use Rattle.std.specs.Prelude.{◌≡◌, ◌+◌, ◌*◌, if◌then◌else◌};
 ghost use Rattle.netlists.specs.Refusals.{number_of};
 
-use tables::Table;
+use tables::{PerVariable, Table};
 
 /// A node of a network: 0 is constant false, then come the inputs, then the rows.
 #[derive(Clone, Copy, PartialEq, Eq, Debug)]
@@ -12,7 +12,8 @@ pub struct Node {
     number: u16,
 }
 
-/// A node's value, or its inversion.
+/// A node's value, or its inversion. The fields are private, so that a node is never passed for a signal.
+// A flag beside the node and no enum of two cases: each use needs the node, and inverts by the flag.
 #[derive(Clone, Copy, PartialEq, Eq, Debug)]
 pub struct Signal {
     node: Node,
@@ -23,23 +24,15 @@ pub struct Signal {
 #[derive(Clone, Copy, PartialEq, Eq, Debug)]
 pub struct Row {
     pub table: Table,
-    pub a: Node,
-    pub b: Node,
-    pub c: Node,
-    pub d: Node,
+    pub nodes: PerVariable<Node>,
 }
 
 /// The four signals that a table is placed over; variable k of the table is the k-th.
-#[derive(Clone, Copy, PartialEq, Eq, Debug)]
-pub struct Fanins {
-    pub a: Signal,
-    pub b: Signal,
-    pub c: Signal,
-    pub d: Signal,
-}
+pub type Fanins = PerVariable<Signal>;
 
 /// A function of nodes in normal form: a row whose table is false at index 0, or the inversion of one.
 /// A constant is held over no node, and a single node over that node alone.
+// The flag is the inversion, as in a signal: the row counts in both cases.
 #[derive(Clone, Copy, PartialEq, Eq, Debug)]
 pub struct Form {
     pub row: Row,
@@ -67,6 +60,7 @@ pub enum Refusal {
 
 impl Refusal {
     /// The number that the refusal is known by.
+    // A match and no discriminants: some refusals share a number.
     pub fn number(self) -> u8
         ensures { result ≡ number_of self }
     {
@@ -79,6 +73,9 @@ impl Refusal {
 }
 
 impl Node {
+    /// The node of constant false.
+    pub const FALSE: Node = Node { number: 0 };
+
     /// The node of a number.
     pub fn new(number: u16) -> Node
         ensures { result.number ≡ number }
@@ -105,6 +102,12 @@ impl Node {
 }
 
 impl Signal {
+    /// The signal that is false.
+    pub const FALSE: Signal = Signal {
+        node: Node::FALSE,
+        inverted: false,
+    };
+
     pub fn node(self) -> Node
         ensures { result ≡ self.node }
     {
@@ -117,7 +120,7 @@ impl Signal {
         self.inverted
     }
 
-    /// Twice the node's number, and one more where it is inverted.
+    /// Twice the node's number, and one more where it is inverted: a signal as one number, for who prints or stores it.
     pub fn code(self) -> u32
         ensures { result ≡ 2 * self.node.number + (if self.inverted then 1 else 0) }
     {

@@ -9,8 +9,8 @@ use networks::Network;
 use std::alloc::{AllocError, Global};
 use std::rt::{Clock, Env};
 use std::time::{Duration, Instant};
-use std::{env, io};
-use tables::Table;
+use std::{env, fmt, io};
+use tables::{PerVariable, Table};
 
 const INPUTS: u16 = 32;
 
@@ -25,115 +25,92 @@ fn sample_row(k: u16) -> (Table, Fanins) {
     let pair = k / 4 % 480;
     let a = pair % INPUTS;
     let b = (a + 1 + pair / INPUTS) % INPUTS;
-    let constant = Node::new(0).signal(false);
-    let fanins = Fanins {
-        a: Node::new(a + 1).signal(false),
-        b: Node::new(b + 1).signal(false),
-        c: constant,
-        d: constant,
+    let fanins = PerVariable {
+        a: Node::new(a + 1),
+        b: Node::new(b + 1),
+        ..PerVariable::splat(Node::FALSE)
     };
-    (TABLES[(k % 4) as usize], fanins)
+    let table = TABLES[(k % 4) as usize];
+    (table, fanins.map(|node: Node| node.signal(false)))
 }
 
 // Places the rows from number `from` on; how many calls were accepted.
 fn place_rows<N: Network>(net: &mut N, from: u16, count: u16) -> u64 {
+    // A loop: with `filter` and `count` the AND and AND-XOR kinds measure a third fewer calls at 500 rows.
     let mut accepted: u64 = 0;
-    for k in 0..count {
-        let (table, fanins) = sample_row(from.wrapping_add(k));
-        if net.place(table, fanins).is_ok() {
-            accepted = accepted.wrapping_add(1);
-        }
+    for (table, fanins) in (from..).take(usize::from(count)).map(sample_row) {
+        let placed = net.place(table, fanins);
+        accepted = accepted.wrapping_add(u64::from(placed.is_ok()));
     }
     accepted
 }
 
-// Prints a speed.
-fn print_speed(
-    rt: &impl Print,
-    kind: &str,
-    rows: u16,
-    what: &str,
+// Place calls, and the time that they took.
+#[derive(Clone, Copy, Default)]
+struct Speed {
     calls: u64,
     time: Duration,
-) -> io::Result<()> {
-    let seconds = time.as_secs_f64();
-    let speed = std::num::nearest_u64_to_f64(calls) / seconds;
-    println!(rt; "{kind}, {rows} rows, {what}: {speed:.0} place calls a second")
 }
 
-// Fills a network, and then times new rows and rows alike.
-fn time_rows<N: Network>(
-    rt: &(impl Print + Clock),
-    kind: &str,
-    net: &mut N,
-    rows: u16,
-    rounds: u16,
-) -> io::Result<()> {
-    let mut fresh = Duration::ZERO;
-    let mut alike = Duration::ZERO;
-    let mut calls: u64 = 0;
-    for _ in 0..rounds {
-        let _ = net.start(INPUTS as usize);
-        let _ = place_rows(net, 0, rows);
+impl Speed {
+    // One batch more, of the rows from number `from` on.
+    fn add_batch<N: Network>(&mut self, rt: &impl Clock, net: &mut N, from: u16) -> io::Result<()> {
         let start = Instant::now(rt)?;
-        calls = calls.wrapping_add(place_rows(net, rows, BATCH));
-        fresh = fresh.checked_add(start.elapsed(rt)?).unwrap_or(fresh);
-        let start = Instant::now(rt)?;
-        let _ = place_rows(net, rows, BATCH);
-        alike = alike.checked_add(start.elapsed(rt)?).unwrap_or(alike);
+        let calls = place_rows(net, from, BATCH);
+        self.time = self.time.saturating_add(start.elapsed(rt)?);
+        self.calls = self.calls.wrapping_add(calls);
+        Ok(())
     }
-    print_speed(rt, kind, rows, "new rows", calls, fresh)?;
-    print_speed(rt, kind, rows, "rows alike", calls, alike)
 }
 
-// All sizes of one kind.
-fn time_kind<N: Network>(
+impl fmt::Display for Speed {
+    fn fmt<W: fmt::Write>(&self, f: &mut fmt::Formatter<W>) -> fmt::Result {
+        let speed = std::num::nearest_u64_to_f64(self.calls) / self.time.as_secs_f64();
+        write!(f, "{speed:.0} place calls a second")
+    }
+}
+
+// The words of 544 places, each with as many as the widest row takes.
+fn words(heap: Global) -> Result<Vec<u16>, AllocError> {
+    vec![in heap; 0u16; 5 * 544]
+}
+
+// The speeds of one kind at each size: of new rows, and of the same rows once more.
+fn time_kind<N: Network + Drop>(
     rt: &(impl Print + Clock),
     kind: &str,
-    net: &mut N,
+    mut net: N,
     rounds: u16,
 ) -> io::Result<()> {
-    time_rows(rt, kind, net, 50, rounds)?;
-    time_rows(rt, kind, net, 200, rounds)?;
-    time_rows(rt, kind, net, 500, rounds)
-}
-
-// The words of 544 places.
-fn words(heap: Global, width: usize) -> Result<Vec<u16>, AllocError> {
-    vec![in heap; 0u16; width.wrapping_mul(544)]
-}
-
-fn time_all(rt: &(impl Print + Clock), heap: Global, rounds: u16) -> io::Result<()> {
-    time_kind(rt, "AND", &mut AndNetwork::new(words(heap, 2)?), rounds)?;
-    time_kind(
-        rt,
-        "AND-XOR",
-        &mut AndXorNetwork::new(words(heap, 2)?),
-        rounds,
-    )?;
-    time_kind(
-        rt,
-        "majority",
-        &mut MajorityNetwork::new(words(heap, 3)?),
-        rounds,
-    )?;
-    time_kind(rt, "table", &mut TableNetwork::new(words(heap, 5)?), rounds)
+    for rows in [50u16, 200, 500] {
+        let mut fresh = Speed::default();
+        let mut alike = Speed::default();
+        for _ in 0..rounds {
+            let _ = net.start(INPUTS as usize);
+            let _ = place_rows(&mut net, 0, rows);
+            fresh.add_batch(rt, &mut net, rows)?;
+            alike.add_batch(rt, &mut net, rows)?;
+        }
+        println!(rt; "{kind}, {rows} rows, new rows: {fresh}")?;
+        println!(rt; "{kind}, {rows} rows, rows alike: {alike}")?;
+    }
+    Ok(())
 }
 
 // The number of rounds, if an argument gives it.
-fn rounds(rt: &HostRuntime) -> io::Result<Option<u16>> {
-    match env::args(rt)?.nth(1) {
-        Some(text) => match text.as_str().parse::<u16>() {
-            Ok(n) => Ok(Some(n)),
-            Err(_) => Ok(None),
-        },
-        None => Ok(None),
-    }
+// It stands in table_bench too: a crate of six lines for two programs is no plainer, and no clause could say what the arguments are.
+fn asked_rounds(rt: &(impl Env + Alloc)) -> io::Result<Option<u16>> {
+    let word = env::args(rt)?.nth(1);
+    Ok(word.and_then(|word| word.as_str().parse::<u16>().ok()))
 }
 
 fn main(rt: HostRuntime) -> io::Result<()> {
-    match rounds(&rt)? {
-        Some(n) => time_all(&rt, rt.alloc(), n),
-        None => Ok(()),
-    }
+    let Some(rounds) = asked_rounds(&rt)? else {
+        return Ok(());
+    };
+    let heap = rt.alloc();
+    time_kind(&rt, "AND", AndNetwork::new(words(heap)?), rounds)?;
+    time_kind(&rt, "AND-XOR", AndXorNetwork::new(words(heap)?), rounds)?;
+    time_kind(&rt, "majority", MajorityNetwork::new(words(heap)?), rounds)?;
+    time_kind(&rt, "table", TableNetwork::new(words(heap)?), rounds)
 }

@@ -1,5 +1,8 @@
 //! Calls made by a small generator: repeated, inverted, constant and missing signals among them.
+ghost use Rattle.std.specs.Prelude.{◌<◌};
+
 use netlists::{Fanins, Node, Signal};
+use std::array;
 use tables::Table;
 
 /// A call of a network.
@@ -22,24 +25,21 @@ impl Generator {
     }
 
     // A number below `limit`, or 0 where that is 0.
-    fn below(&mut self, limit: u32) -> u32 {
+    fn below(&mut self, limit: u32) -> u32
+        ensures { 0 < limit → result < limit }
+    {
         self.state = self.state.wrapping_mul(1664525).wrapping_add(1013904223);
-        if limit == 0 {
-            0
-        } else {
-            (self.state / 4096) % limit
-        }
+        (self.state / 4096).checked_rem(limit).unwrap_or(0)
     }
 
     // A signal of the constant, of one of the first few nodes, or of any node that a network can have, there or not.
     fn signal(&mut self) -> Signal {
-        let limit = match self.below(16) {
-            0 => 1,
-            1 => 600,
-            2..=6 => 20,
-            _ => 7,
+        let number = match self.below(16) {
+            0 => self.below(1),
+            1 => self.below(600),
+            2..=6 => self.below(20),
+            _ => self.below(7),
         };
-        let number = self.below(limit) % 65536;
         let inverted = self.below(2) == 1;
         Node::new(number as u16).signal(inverted)
     }
@@ -52,7 +52,7 @@ impl Generator {
             4 => 0xE8E8,
             5 => 0xCACA,
             6 => 0x8080,
-            _ => (self.below(65536) % 65536) as u16,
+            _ => self.below(65536) as u16,
         }
     }
 
@@ -62,10 +62,7 @@ impl Generator {
             0 => Call::Start(4 + self.below(32) as usize),
             1..=20 => Call::Output(self.signal()),
             _ => {
-                let a = self.signal();
-                let b = self.signal();
-                let c = self.signal();
-                let d = self.signal();
+                let [a, b, c, d]: [Signal; 4] = array::from_fn(|_| self.signal());
                 Call::Place(self.table(), Fanins { a, b, c, d })
             }
         }

@@ -1,158 +1,89 @@
 //! A plain model of a network: a table over signals is asked at every setting of the nodes that they name.
-ghost use Rattle.std.specs.Prelude.{◌≤◌};
-
+use crate::calls::Call;
 use classes::Ownership;
-use netlists::{Fanins, Node, Row, Signal};
-use tables::Table;
+use netlists::{Fanins, Node, Refusal, Row, Signal};
+use reference::tables::{Variable, is_used, setting_of, table_of, value_at};
+use std::alloc::{AllocError, Global};
+use std::array;
+use tables::{PerVariable, Table};
 
-// A table over four signals, and the nodes that they name, ascending; a node can stand there more than once.
+// A table over four signals, and the numbers of the nodes that they name, ascending; a node can stand there more than once.
 #[derive(Clone, Copy)]
-pub struct Question {
+struct Question {
     table: Table,
-    fanins: Fanins,
+    fanins: [Signal; 4],
     nodes: [u16; 4],
 }
 
-/// What a question comes to: the nodes that matter, ascending and then 0, the table over them, and whether it is inverted.
+// A node that matters, and the variable that stood for it.
+type Place = (Variable, Node);
+
+// What a question comes to: the nodes that matter, ascending and then 0, the table over them, and whether it is inverted.
 #[derive(Clone, Copy)]
-pub struct Reduced {
-    pub row: Row,
-    pub count: u8,
-    pub inverted: bool,
-}
-
-fn bit(word: u16, place: usize) -> bool {
-    (word >> (place % 16)) % 2 == 1
-}
-
-fn weight(place: usize) -> u16 {
-    match place {
-        0 => 1,
-        1 => 2,
-        2 => 4,
-        _ => 8,
-    }
+struct Reduced {
+    row: Row,
+    count: usize,
+    inverted: bool,
 }
 
 impl Question {
-    pub fn new(table: Table, fanins: Fanins) -> Question {
-        let a = fanins.a.node().number();
-        let b = fanins.b.node().number();
-        let c = fanins.c.node().number();
-        let d = fanins.d.node().number();
-        let low = a.min(b).min(c.min(d));
-        let high = a.max(b).max(c.max(d));
-        let left = a.min(b).max(c.min(d));
-        let right = a.max(b).min(c.max(d));
+    fn new(table: Table, fanins: Fanins) -> Question {
+        let fanins = [fanins.a, fanins.b, fanins.c, fanins.d];
+        let mut nodes = fanins.map(|signal| signal.node().number());
+        nodes.sort_unstable();
         Question {
             table,
             fanins,
-            nodes: [low, left.min(right), left.max(right), high],
+            nodes,
         }
     }
 
-    // The truth of a signal where the nodes at the places in `setting` are true; a node counts by its first place.
+    // The truth of a signal where the nodes at these places are true; a node counts by its first place.
     fn truth(self, signal: Signal, setting: u16) -> bool {
         let number = signal.node().number();
-        for p in 0..4 {
-            if self.nodes[p] == number {
-                return (number != 0 && bit(setting, p)) != signal.inverted();
-            }
-        }
-        signal.inverted()
+        let mut places = Variable::ALL.into_iter().zip(self.nodes);
+        let place = places.find(|(_, node)| *node == number);
+        let value = place.is_some_and(|(v, node)| node != 0 && v.is_set(setting));
+        value != signal.inverted()
     }
 
-    fn at(self, setting: u16) -> bool {
-        let a = if self.truth(self.fanins.a, setting) {
-            1
-        } else {
-            0
-        };
-        let b = if self.truth(self.fanins.b, setting) {
-            2
-        } else {
-            0
-        };
-        let c = if self.truth(self.fanins.c, setting) {
-            4
-        } else {
-            0
-        };
-        let d = if self.truth(self.fanins.d, setting) {
-            8
-        } else {
-            0
-        };
-        bit(self.table, a + b + c + d)
+    // The table over the nodes at the four places.
+    fn over_nodes(self) -> Table {
+        table_of(|x| {
+            let values = self.fanins.map(|signal| self.truth(signal, x));
+            value_at(self.table, setting_of(values))
+        })
     }
 
-    // Whether the value changes with the node at a place.
-    fn matters(self, place: usize) -> bool {
-        for setting in 0..16 {
-            if self.at(setting) != self.at(setting ^ weight(place)) {
-                return true;
-            }
-        }
-        false
-    }
-
-    // The setting of a row's table as one of the places.
-    fn spread(places: [usize; 4], setting: u16) -> u16 {
-        let mut spread = 0;
-        for j in 0..4 {
-            if places[j] < 4 && bit(setting, j) {
-                spread |= weight(places[j]);
-            }
-        }
-        spread
-    }
-}
-
-impl Question {
-    // The places whose nodes matter, and then 4.
-    fn places(self) -> [usize; 4] {
-        let mut places = [4; 4];
-        let mut count = 0;
-        for p in 0..4 {
-            if count < 4 && self.matters(p) {
-                places[count] = p;
-                count += 1;
-            }
-        }
-        places
-    }
-
-    fn node(self, place: usize) -> Node {
-        Node::new(if place < 4 { self.nodes[place] } else { 0 })
-    }
-
-    pub fn reduce(self) -> Reduced {
-        let places = self.places();
-        let inverted = self.at(0);
-        let mut table = 0;
-        for i in 0..16u16 {
-            if self.at(Question::spread(places, i)) != inverted {
-                table |= 1 << i;
-            }
-        }
+    fn reduce(self) -> Reduced {
+        let f = self.over_nodes();
+        let places = Variable::ALL.into_iter().zip(self.nodes.map(Node::new));
+        let mut used = places.filter(|(v, _)| is_used(f, *v));
+        let places: [Option<Place>; 4] = array::from_fn(|_| used.next());
+        let inverted = value_at(f, 0);
+        let [a, b, c, d] = places.map(|place| place.map_or(Node::FALSE, |(_, node)| node));
         Reduced {
             row: Row {
-                table,
-                a: self.node(places[0]),
-                b: self.node(places[1]),
-                c: self.node(places[2]),
-                d: self.node(places[3]),
+                table: table_of(|x| value_at(f, spread(places, x)) != inverted),
+                nodes: PerVariable { a, b, c, d },
             },
-            count: used(places[0]) + used(places[1]) + used(places[2]) + used(places[3]),
+            count: places.iter().flatten().count(),
             inverted,
         }
     }
 }
 
-fn used(place: usize) -> u8
-    ensures { result ≤ 1 }
-{
-    if place < 4 { 1 } else { 0 }
+// The setting of the places at a setting of those that matter.
+fn spread(places: [Option<Place>; 4], setting: u16) -> u16 {
+    let mut spread = 0;
+    for (v, place) in Variable::ALL.into_iter().zip(places) {
+        if let Some((old, _)) = place
+            && v.is_set(setting)
+        {
+            spread |= old.bit();
+        }
+    }
+    spread
 }
 
 // Whether a reduced table of two nodes or more is owned: all of two nodes are ANDs but the exclusive-or.
@@ -165,78 +96,124 @@ fn is_in(owned: Ownership, reduced: Reduced) -> bool {
     }
 }
 
-/// The answer of a call: a signal, a signal with a new row, or the number of a refusal.
+/// What an accepted call changes.
 #[derive(Clone, Copy)]
-pub enum Answer {
-    Given(Signal),
-    Added(Signal, Row),
-    Refused(u8),
+pub enum Change {
+    Start(usize),
+    Output(Signal),
+    Row(Row),
+}
+
+/// An accepted call: its signal if it is a place call, and what it changes, if anything.
+#[derive(Clone, Copy)]
+pub struct Accepted {
+    pub signal: Option<Signal>,
+    pub change: Option<Change>,
 }
 
 /// A network as plain lists.
 #[derive(Drop)]
 pub struct Model {
-    pub inputs: u16,
+    pub inputs: usize,
     pub rows: Vec<Row>,
     pub outputs: Vec<Signal>,
-    pub places: usize,
-    pub owned: Ownership,
+    places: usize,
+    owned: Ownership,
 }
 
 impl Model {
-    /// How many nodes there are, node 0 included.
-    pub fn node_count(&self) -> u16 {
-        let mut count = self.inputs.wrapping_add(1);
-        for _ in self.rows.iter() {
-            count = count.wrapping_add(1);
+    /// A network with nothing in it.
+    pub fn new(heap: Global, places: usize, owned: Ownership) -> Model {
+        Model {
+            inputs: 0,
+            rows: Vec::new(heap),
+            outputs: Vec::new(heap),
+            places,
+            owned,
         }
-        count
     }
 
-    fn lacks(&self, signal: Signal) -> bool {
-        signal.node().number() >= self.node_count()
+    // Node number `k` of the rows, counted from 0.
+    fn row_node(&self, k: usize) -> Node {
+        let number = self.inputs.wrapping_add(1).wrapping_add(k);
+        Node::new(u16::try_from(number).unwrap_or(u16::MAX))
     }
 
-    pub fn place(&self, table: Table, fanins: Fanins) -> Answer {
-        if self.lacks(fanins.a)
-            || self.lacks(fanins.b)
-            || self.lacks(fanins.c)
-            || self.lacks(fanins.d)
-        {
-            return Answer::Refused(9);
-        }
-        let reduced = Question::new(table, fanins).reduce();
-        if reduced.count < 2 {
-            return Answer::Given(reduced.row.a.signal(reduced.inverted));
-        }
-        if !is_in(self.owned, reduced) {
-            return Answer::Refused(10);
-        }
-        self.settle(reduced)
+    fn has(&self, signal: Signal) -> bool {
+        signal.node().number() < self.row_node(self.rows.len()).number()
     }
 
-    // The row alike, or a new one where there is a place.
-    fn settle(&self, reduced: Reduced) -> Answer {
-        let mut number = self.inputs.wrapping_add(1);
-        for row in self.rows.iter() {
-            if *row == reduced.row {
-                return Answer::Given(Node::new(number).signal(reduced.inverted));
+    /// What a call comes to, or why it is refused; nothing changes yet.
+    pub fn judge(&self, call: Call) -> Result<Accepted, Refusal> {
+        match call {
+            Call::Start(inputs) => self.start(inputs),
+            Call::Output(signal) => self.output(signal),
+            Call::Place(table, fanins) => self.place(table, fanins),
+        }
+    }
+
+    /// Makes a change.
+    pub fn make(&mut self, change: Change) -> Result<(), AllocError> {
+        match change {
+            Change::Start(inputs) => {
+                self.inputs = inputs;
+                self.rows.clear();
+                self.outputs.clear();
             }
-            number = number.wrapping_add(1);
+            Change::Output(signal) => self.outputs.push(signal)?,
+            Change::Row(row) => self.rows.push(row)?,
         }
-        if self.rows.len() >= self.places {
-            return Answer::Refused(11);
-        }
-        Answer::Added(Node::new(number).signal(reduced.inverted), reduced.row)
+        Ok(())
     }
 
-    pub fn output(&self, signal: Signal) -> Answer {
-        if self.lacks(signal) {
-            return Answer::Refused(9);
+    fn start(&self, inputs: usize) -> Result<Accepted, Refusal> {
+        if inputs > 32 {
+            return Err(Refusal::TooManyInputs);
+        }
+        Ok(Accepted {
+            signal: None,
+            change: Some(Change::Start(inputs)),
+        })
+    }
+
+    fn output(&self, signal: Signal) -> Result<Accepted, Refusal> {
+        if !self.has(signal) {
+            return Err(Refusal::NoSuchNode);
         }
         if self.outputs.len() >= 32 {
-            return Answer::Refused(10);
+            return Err(Refusal::TooManyOutputs);
         }
-        Answer::Given(signal)
+        Ok(Accepted {
+            signal: None,
+            change: Some(Change::Output(signal)),
+        })
+    }
+
+    fn place(&self, table: Table, fanins: Fanins) -> Result<Accepted, Refusal> {
+        if !fanins.all(|signal| self.has(signal)) {
+            return Err(Refusal::NoSuchNode);
+        }
+        let reduced = Question::new(table, fanins).reduce();
+        let (node, change) = if reduced.count < 2 {
+            (reduced.row.nodes.a, None)
+        } else if is_in(self.owned, reduced) {
+            self.settle(reduced.row)?
+        } else {
+            return Err(Refusal::NotOwned);
+        };
+        Ok(Accepted {
+            signal: Some(node.signal(reduced.inverted)),
+            change,
+        })
+    }
+
+    // The node of the row alike, or of a new one where there is a place.
+    fn settle(&self, row: Row) -> Result<(Node, Option<Change>), Refusal> {
+        let next = self.rows.len();
+        match self.rows.iter().position(|other| *other == row) {
+            Some(k) => Ok((self.row_node(k), None)),
+            None if next < self.places => Ok((self.row_node(next), Some(Change::Row(row)))),
+            None => Err(Refusal::NoPlace),
+        }
     }
 }

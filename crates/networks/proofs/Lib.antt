@@ -1,4 +1,5 @@
 pub mod Meanings
+pub mod Sets
 pub mod Copying
 pub mod Keeping
-pub mod Marking
+pub mod Reaching

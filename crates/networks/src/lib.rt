@@ -2,6 +2,8 @@
 #![tactic(auto)]
 
 pub mod copies;
+mod node_set;
+mod signal_map;
 pub mod sweeps;
 
 ghost use Rattle.std.specs.Prelude.{◌≡◌, ℕ, length, Err, MatchResult};
@@ -16,8 +18,11 @@ use classes::Ownership;
 use netlists::{Fanins, Refusal, Row, Signal};
 use tables::Table;
 
+// The nodes that a network may have: node 0, 32 inputs and 544 rows.
+pub(crate) const NODE_LIMIT: usize = 1 + 32 + 544;
+
 /// A network of gates. It means a netlist: an input count, rows and output signals. Which classes it owns is one for a kind,
-/// and its places never change.
+/// and its places never change: each call that alters says so by itself, since an invariant speaks of one moment alone.
 pub trait Network {
     ghost netlist: { Self → Netlist };
 
@@ -32,7 +37,8 @@ pub trait Network {
 
     /// Answers a signal that has the table's value at the signals: a constant, a node that is there, or a new last row.
     fn place(&mut self, table: Table, fanins: Fanins) -> Result<Signal, Refusal>
-        ensures answer { Answers (after_place ownership (places self.old) (netlist self.old) table fanins) result (λ s. record { signal = s; netlist = netlist self.new }) (self.new ≡ self.old) }
+        ensures answer { Answers (after_place ownership (places self.old) (netlist self.old) table fanins) result
+            (λ s. record { signal = s; netlist = netlist self.new }) (self.new ≡ self.old) }
         ensures kept { places self.new ≡ places self.old };
 
     /// Adds an output signal.
@@ -69,8 +75,11 @@ pub trait Network {
 
 /// Places a table over four signals: for every setting of the inputs the answered signal then has the table's value at the
 /// values of the signals, and every node that was there keeps its value.
+#[tactic(auto, using(crate::proofs::Meanings::place_means))]
 pub fn place_table<N: Network>(net: &mut N, table: Table, fanins: Fanins) -> Result<Signal, Refusal>
-    ensures { MatchResult result (λ s. Placed N.Network.ownership (N.Network.places net.old) (N.Network.netlist net.old) table fanins (record { signal = s; netlist = N.Network.netlist net.new })) (λ e. (after_place N.Network.ownership (N.Network.places net.old) (N.Network.netlist net.old) table fanins ≡ Err e) × (net.new ≡ net.old)) }
+    ensures { MatchResult result
+        (λ s. Placed N.ownership (N.places net.old) (N.netlist net.old) table fanins (record { signal = s; netlist = N.netlist net.new }))
+        (λ e. (after_place N.ownership (N.places net.old) (N.netlist net.old) table fanins ≡ Err e) × (net.new ≡ net.old)) }
 {
     net.place(table, fanins)
 }

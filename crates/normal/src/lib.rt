@@ -3,40 +3,13 @@
 
 ghost use Rattle.std.specs.Prelude.{◌≡◌};
 ghost use Rattle.tables.specs.Swaps.{swapped, joined};
-ghost use Rattle.netlists.specs.Normal.{none, node_at, with_node, with_table, turned, entered, grounded, unified, trimmed, precedes, ordered, all_grounded, all_unified, all_trimmed, all_ordered, reduced, settled, normal};
+ghost use Rattle.netlists.specs.Normal.{turned, entered, grounded, unified, trimmed, precedes, ordered, all_grounded, all_unified, all_trimmed, all_ordered, settled, normal};
 ghost use Rattle.netlists.specs.Lawful.{FormOf};
 
-use netlists::{Fanins, Form, Node, Row};
+use netlists::{Fanins, Form, Node, Row, Signal};
 use tables::{
-    Table, Variable, choose, depends_on, flip_variable, high_cofactor, invert, low_cofactor,
-    variable_table,
+    Table, Variable, choose, cofactor, depends_on, flip_variable, invert, variable_table,
 };
-
-// ---- rows under way: the nodes stand in any order, and node 0 at the places that are not used
-
-// The node that is variable `v` of a row's table.
-fn node_at(row: Row, v: Variable) -> Node
-    ensures { result ≡ node_at row v }
-{
-    match v {
-        Variable::V0 => row.a,
-        Variable::V1 => row.b,
-        Variable::V2 => row.c,
-        Variable::V3 => row.d,
-    }
-}
-
-// The row with `node` as variable `v`.
-fn with_node(row: Row, v: Variable, node: Node) -> Row
-    ensures { result ≡ with_node row v node }
-{
-    match v {
-        Variable::V0 => Row { a: node, ..row },
-        Variable::V1 => Row { b: node, ..row },
-        Variable::V2 => Row { c: node, ..row },
-        Variable::V3 => Row { d: node, ..row },
-    }
-}
 
 // ---- tables
 
@@ -47,25 +20,32 @@ fn turn(f: Table, v: Variable, inverted: bool) -> Table
     if inverted { flip_variable(f, v) } else { f }
 }
 
-// The table with `k` read as `j`.
+// The table with `k` read as `j`. The two stand in different roles in each step, so they are no pair of a type.
+#[tactic(auto, using(tables::proofs::Swaps::joined_code))]
 fn join_variables(f: Table, j: Variable, k: Variable) -> Table
     ensures { result ≡ joined f j k }
 {
-    choose(variable_table(j), high_cofactor(f, k), low_cofactor(f, k))
+    choose(
+        variable_table(j),
+        cofactor(f, k, true),
+        cofactor(f, k, false),
+    )
 }
 
 // The table with `j` and `k` exchanged.
+#[tactic(auto, using(tables::proofs::Swaps::swapped_code))]
 fn swap_variables(f: Table, j: Variable, k: Variable) -> Table
     ensures { result ≡ swapped f j k }
 {
-    let high = join_variables(high_cofactor(f, j), j, k);
-    let low = join_variables(low_cofactor(f, j), j, k);
+    let high = join_variables(cofactor(f, j, true), j, k);
+    let low = join_variables(cofactor(f, j, false), j, k);
     choose(variable_table(k), high, low)
 }
 
-// ---- the steps
+// ---- the steps on rows under way: the nodes stand in any order, and node 0 at the places that are not used
 
-// The inversions of the signals go into the table.
+// The inversions of the signals go into the table. (One line each: with a loop the whole is up to a third slower.)
+#[tactic(auto, unfolding(netlists::specs::Normal::entered))]
 fn enter(f: Table, fanins: Fanins) -> Row
     ensures { result ≡ entered f fanins }
 {
@@ -75,20 +55,18 @@ fn enter(f: Table, fanins: Fanins) -> Row
     let table = turn(by_c, Variable::V3, fanins.d.inverted());
     Row {
         table,
-        a: fanins.a.node(),
-        b: fanins.b.node(),
-        c: fanins.c.node(),
-        d: fanins.d.node(),
+        nodes: fanins.map(Signal::node),
     }
 }
 
 // Where `v` is node 0, it is fixed at false.
+#[tactic(auto, unfolding(netlists::specs::Normal::grounded))]
 fn ground(row: Row, v: Variable) -> Row
     ensures { result ≡ grounded row v }
 {
-    if node_at(row, v).number() == 0 {
+    if row.nodes.at(v) == Node::FALSE {
         Row {
-            table: low_cofactor(row.table, v),
+            table: cofactor(row.table, v, false),
             ..row
         }
     } else {
@@ -97,28 +75,32 @@ fn ground(row: Row, v: Variable) -> Row
 }
 
 // Where `j` and `k` are one node, `k` is read as `j` and no longer used.
+#[tactic(auto, using(netlists::proofs::Steps::with_node_same), unfolding(netlists::specs::Normal::unified))]
 fn unify(row: Row, j: Variable, k: Variable) -> Row
     ensures { result ≡ unified row j k }
 {
-    if node_at(row, j).number() == node_at(row, k).number() {
-        let joined = Row {
+    if row.nodes.at(j) == row.nodes.at(k) {
+        Row {
             table: join_variables(row.table, j, k),
-            ..row
-        };
-        with_node(joined, k, Node::new(0))
+            nodes: row.nodes.with(k, Node::FALSE),
+        }
     } else {
         row
     }
 }
 
 // A node that the table does not depend on is no longer used.
+#[tactic(auto, using(netlists::proofs::Steps::with_node_same), unfolding(netlists::specs::Normal::trimmed))]
 fn trim(row: Row, v: Variable) -> Row
     ensures { result ≡ trimmed row v }
 {
     if depends_on(row.table, v) {
         row
     } else {
-        with_node(row, v, Node::new(0))
+        Row {
+            nodes: row.nodes.with(v, Node::FALSE),
+            ..row
+        }
     }
 }
 
@@ -130,17 +112,17 @@ fn stands_before(m: Node, n: Node) -> bool
 }
 
 // The nodes of `j` and `k` are exchanged, with the variables, where they stand in the wrong order.
+#[tactic(auto, using(netlists::proofs::Steps::with_node_same), unfolding(netlists::specs::Normal::ordered))]
 fn order(row: Row, j: Variable, k: Variable) -> Row
     ensures { result ≡ ordered row j k }
 {
-    let m = node_at(row, j);
-    let n = node_at(row, k);
+    let m = row.nodes.at(j);
+    let n = row.nodes.at(k);
     if stands_before(n, m) {
-        let swapped = Row {
+        Row {
             table: swap_variables(row.table, j, k),
-            ..row
-        };
-        with_node(with_node(swapped, j, n), k, m)
+            nodes: row.nodes.with(j, n).with(k, m),
+        }
     } else {
         row
     }
@@ -148,15 +130,19 @@ fn order(row: Row, j: Variable, k: Variable) -> Row
 
 // ---- the whole
 
-fn ground_all(row: Row) -> Row
+// As `trim_all` but for the step: the contract of one function over any step would be longer than both.
+#[tactic(auto, unfolding(netlists::specs::Normal::all_grounded))]
+fn ground_all(mut row: Row) -> Row
     ensures { result ≡ all_grounded row }
 {
-    let row = ground(row, Variable::V0);
-    let row = ground(row, Variable::V1);
-    let row = ground(row, Variable::V2);
-    ground(row, Variable::V3)
+    for v in Variable::ALL {
+        row = ground(row, v);
+    }
+    row
 }
 
+// One line each: with loops over lists of pairs, here and in `order_all`, the whole is twice as slow.
+#[tactic(auto, unfolding(netlists::specs::Normal::all_unified))]
 fn unify_all(row: Row) -> Row
     ensures { result ≡ all_unified row }
 {
@@ -168,16 +154,18 @@ fn unify_all(row: Row) -> Row
     unify(row, Variable::V2, Variable::V3)
 }
 
-fn trim_all(row: Row) -> Row
+#[tactic(auto, unfolding(netlists::specs::Normal::all_trimmed))]
+fn trim_all(mut row: Row) -> Row
     ensures { result ≡ all_trimmed row }
 {
-    let row = trim(row, Variable::V0);
-    let row = trim(row, Variable::V1);
-    let row = trim(row, Variable::V2);
-    trim(row, Variable::V3)
+    for v in Variable::ALL {
+        row = trim(row, v);
+    }
+    row
 }
 
 // Five comparisons sort four nodes.
+#[tactic(auto, unfolding(netlists::specs::Normal::all_ordered))]
 fn order_all(row: Row) -> Row
     ensures { result ≡ all_ordered row }
 {
@@ -189,6 +177,7 @@ fn order_all(row: Row) -> Row
 }
 
 // A table that is true at index 0 is inverted, and so is the form.
+#[tactic(auto, using(crate::proofs::Ways::at_zero_true, crate::proofs::Ways::at_zero_false), unfolding(netlists::specs::Normal::settled))]
 fn settle(row: Row) -> Form
     ensures { result ≡ settled row }
 {
@@ -210,6 +199,7 @@ fn settle(row: Row) -> Form
 
 /// A table over four signals, as a table over the nodes that it depends on: ascending, and false at index 0. It is the only
 /// such form of that function of the nodes.
+#[tactic(auto, using(netlists::proofs::Unique::normal_form_of), unfolding(netlists::specs::Normal::reduced, netlists::specs::Normal::normal))]
 pub fn normal_form(f: Table, fanins: Fanins) -> Form
     ensures is { result ≡ normal f fanins }
     ensures means { FormOf f fanins result }

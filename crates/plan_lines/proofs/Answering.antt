@@ -3,6 +3,8 @@ use Rattle.std.proofs.Common.{◌≡◌, ℕ, suc, ◌+◌, ◌<◌, ◌≤◌, 
 use Rattle.std.proofs.lemmas.List.{get_or_append_left, get_or_push}
 use Rattle.tables.specs.declared.Variable.{Variable}
 use Rattle.tables.specs.declared.Variable.TheVariants.{V0, V1, V2, V3}
+use Rattle.tables.specs.declared.per_variable.PerVariable.{PerVariable}
+use Rattle.tables.specs.PerVariable.{at}
 use Rattle.tables.specs.Bits.{bit, inverted}
 use Rattle.tables.specs.Settings.{Setting, get}
 use Rattle.tables.specs.Tables.{value}
@@ -11,13 +13,12 @@ use Rattle.plan_lines.specs.declared.Source.{Source}
 use Rattle.plan_lines.specs.declared.Source.TheVariants as source
 use Rattle.plan_lines.specs.declared.Literal.{Literal}
 use Rattle.plan_lines.specs.declared.Line.{Line}
-use Rattle.plan_lines.specs.declared.Inputs.{Inputs}
-use Rattle.plan_lines.specs.Lines.{nth, invert_if, stands, and_table, or_table, xor_table, two_of, and_of, or_of, xor_of}
+use Rattle.plan_lines.specs.Lines.{nth, invert_if, and_table, or_table, xor_table, two_of, and_of, or_of, xor_of}
 use Rattle.plan_lines.specs.Lines.{SourceBefore, ReadsBefore, ReadsEarlier, EachReadsEarlier, source_value, literal_value, line_value, answers, standing}
 
 -- no variable stands for a line
-abbrev pub NoLine : Inputs → Type 0
-NoLine bs = (v : Variable) → ReadsBefore 0 (stands bs v)
+abbrev pub NoLine : PerVariable Literal → Type 0
+NoLine bs = (v : Variable) → ReadsBefore 0 (at bs v)
 
 source_more : (m n : ℕ) (s : Source) → m ≤ n → SourceBefore m s → SourceBefore n s
 source_more m n source.Constant h r = tt
@@ -59,15 +60,15 @@ source_any y vs (source.Line i) r = absurd (not-suc-le-zero r)
 pub literal_any : (y : Setting) (vs : List Bool) (l : Literal) → ReadsBefore 0 l → literal_value y vs l ≡ literal_value y [] l
 literal_any y vs l r = ap (inverted l.inverted) (source_any y vs l.source r)
 
-get-standing : (y : Setting) (bs : Inputs) (v : Variable) → get (standing y bs) v ≡ literal_value y [] (stands bs v)
+get-standing : (y : Setting) (bs : PerVariable Literal) (v : Variable) → get (standing y bs) v ≡ literal_value y [] (at bs v)
 get-standing y bs V0 = refl
 get-standing y bs V1 = refl
 get-standing y bs V2 = refl
 get-standing y bs V3 = refl
 
 -- what a variable stands for has the variable's value
-pub stands-value : (y : Setting) (vs : List Bool) (bs : Inputs) (v : Variable) → NoLine bs → literal_value y vs (stands bs v) ≡ get (standing y bs) v
-stands-value y vs bs v n = literal_any y vs (stands bs v) (n v) ∙ sym (get-standing y bs v)
+pub stands-value : (y : Setting) (vs : List Bool) (bs : PerVariable Literal) (v : Variable) → NoLine bs → literal_value y vs (at bs v) ≡ get (standing y bs) v
+stands-value y vs bs v n = literal_any y vs (at bs v) (n v) ∙ sym (get-standing y bs v)
 
 twice_inverted : (i j b : Bool) → inverted (inverted i j) b ≡ inverted i (inverted j b)
 twice_inverted true true true = refl

@@ -1,2 +1,1 @@
-pub mod Memory
 pub mod Answering

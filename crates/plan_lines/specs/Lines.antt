@@ -2,6 +2,8 @@
 use Rattle.std.specs.Prelude.{ℕ, suc, ◌<◌, Bool, false, cond, List, [], ◌∷◌, ◌++◌, slice_index_or}
 use Rattle.tables.specs.declared.Variable.{Variable}
 use Rattle.tables.specs.declared.Variable.TheVariants.{V0, V1, V2, V3}
+use Rattle.tables.specs.declared.per_variable.PerVariable.{PerVariable}
+use Rattle.tables.specs.PerVariable.{at}
 use Rattle.tables.specs.Bits.{inverted}
 use Rattle.tables.specs.Settings.{Setting, get}
 use Rattle.tables.specs.Tables.{value, depends_on}
@@ -9,7 +11,6 @@ use Rattle.plan_lines.specs.declared.Source.{Source}
 use Rattle.plan_lines.specs.declared.Source.TheVariants as source
 use Rattle.plan_lines.specs.declared.Literal.{Literal}
 use Rattle.plan_lines.specs.declared.Line.{Line}
-use Rattle.plan_lines.specs.declared.Inputs.{Inputs}
 
 -- ---- literals
 
@@ -24,13 +25,6 @@ nth n = record { source = source.Line n; inverted = false }
 abbrev pub invert_if : Bool → Literal → Literal
 invert_if i l = record { source = l.source; inverted = inverted i l.inverted }
 
--- what variable v stands for
-abbrev pub stands : Inputs → Variable → Literal
-stands bs V0 = bs.a
-stands bs V1 = bs.b
-stands bs V2 = bs.c
-stands bs V3 = bs.d
-
 -- ---- the forms of lines
 
 abbrev pub and_table : ℕ
@@ -43,7 +37,7 @@ abbrev pub xor_table : ℕ
 xor_table = 0x6666
 
 abbrev pub two_of : ℕ → Literal → Literal → Line
-two_of f p q = record { table = f; a = p; b = q; c = constant_false; d = constant_false }
+two_of f p q = record { table = f; literals = record { a = p; b = q; c = constant_false; d = constant_false } }
 
 abbrev pub and_of : Literal → Literal → Line
 and_of = two_of and_table
@@ -55,11 +49,11 @@ abbrev pub xor_of : Literal → Literal → Line
 xor_of = two_of xor_table
 
 -- what v stands for, or constant false where the table does not depend on v
-abbrev pub used : ℕ → Inputs → Variable → Literal
-used h bs v = cond (depends_on h v) (stands bs v) constant_false
+abbrev pub used : ℕ → PerVariable Literal → Variable → Literal
+used h bs v = cond (depends_on h v) (at bs v) constant_false
 
-abbrev pub whole_of : ℕ → Inputs → Line
-whole_of h bs = record { table = h; a = used h bs V0; b = used h bs V1; c = used h bs V2; d = used h bs V3 }
+abbrev pub whole_of : ℕ → PerVariable Literal → Line
+whole_of h bs = record { table = h; literals = record { a = used h bs V0; b = used h bs V1; c = used h bs V2; d = used h bs V3 } }
 
 -- ---- what a line reads
 
@@ -74,10 +68,10 @@ ReadsBefore n l = SourceBefore n l.source
 
 -- line number n reads no line of its own number or a higher one
 pub record ReadsEarlier (n : ℕ) (l : Line) : Type 0 where
-  pub a : ReadsBefore n l.a
-  pub b : ReadsBefore n l.b
-  pub c : ReadsBefore n l.c
-  pub d : ReadsBefore n l.d
+  pub a : ReadsBefore n l.literals.a
+  pub b : ReadsBefore n l.literals.b
+  pub c : ReadsBefore n l.literals.c
+  pub d : ReadsBefore n l.literals.d
 
 -- so it is with each of these lines, the first of which has number n
 abbrev pub EachReadsEarlier : ℕ → List Line → Type 0
@@ -94,14 +88,18 @@ source_value y vs (source.Line n) = slice_index_or vs n false
 abbrev pub literal_value : Setting → List Bool → Literal → Bool
 literal_value y vs l = inverted l.inverted (source_value y vs l.source)
 
+-- the setting that literals give
+abbrev pub setting_by : Setting → List Bool → PerVariable Literal → Setting
+setting_by y vs bs = record {
+  a = literal_value y vs bs.a;
+  b = literal_value y vs bs.b;
+  c = literal_value y vs bs.c;
+  d = literal_value y vs bs.d;
+}
+
 -- the setting that a line's table is read at
 abbrev pub line_setting : Setting → List Bool → Line → Setting
-line_setting y vs l = record {
-  a = literal_value y vs l.a;
-  b = literal_value y vs l.b;
-  c = literal_value y vs l.c;
-  d = literal_value y vs l.d;
-}
+line_setting y vs l = setting_by y vs l.literals
 
 abbrev pub line_value : Setting → List Bool → Line → Bool
 line_value y vs l = value l.table (line_setting y vs l)
@@ -112,10 +110,5 @@ answers y vs [] = vs
 answers y vs (l ∷ ls) = answers y (vs ++ line_value y vs l ∷ []) ls
 
 -- the setting of the variables that stand for these literals
-abbrev pub standing : Setting → Inputs → Setting
-standing y bs = record {
-  a = literal_value y [] bs.a;
-  b = literal_value y [] bs.b;
-  c = literal_value y [] bs.c;
-  d = literal_value y [] bs.d;
-}
+abbrev pub standing : Setting → PerVariable Literal → Setting
+standing y bs = setting_by y [] bs

@@ -1,12 +1,12 @@
 // The lines of a plan: each is one place call, a table over four literals.
 #![tactic(auto)]
 
-pub mod lines;
+ghost use Rattle.std.specs.Prelude.{◌≡◌, ◌+◌, ◌<◌, [], ◌∷◌, ◌++◌, length, slice_set};
+ghost use Rattle.lists.specs.Lists.{listed};
+ghost use Rattle.plan_lines.specs.Lines.{invert_if, nth, two_of, used, whole_of};
 
-ghost use Rattle.std.specs.Prelude.{◌≡◌};
-ghost use Rattle.plan_lines.specs.Lines.{invert_if, stands, two_of, used, whole_of};
-
-use tables::{Table, Variable, depends_on};
+use lists::FixedList;
+use tables::{PerVariable, Table, VARIABLES, Variable, depends_on};
 
 /// The tables of two literals: their AND, their OR and their exclusive-or.
 pub const AND: Table = 0x8888;
@@ -15,8 +15,11 @@ pub const OR: Table = 0xEEEE;
 
 pub const XOR: Table = 0x6666;
 
+/// How many lines a plan has at most.
+pub const MOST_LINES: usize = 21;
+
 /// Where a literal comes from.
-#[derive(Clone, Copy)]
+#[derive(Clone, Copy, PartialEq, Eq, Debug)]
 pub enum Source {
     /// Constant false.
     Constant,
@@ -27,30 +30,25 @@ pub enum Source {
 }
 
 /// A source, or its inversion.
-#[derive(Clone, Copy)]
+// A flag beside the source and no enum of two cases: each use needs the source, and inverts by the flag.
+#[derive(Clone, Copy, PartialEq, Eq, Debug)]
 pub struct Literal {
     pub source: Source,
     pub inverted: bool,
 }
 
 /// One place call: a table over four literals.
-#[derive(Clone, Copy)]
+#[derive(Clone, Copy, PartialEq, Eq, Debug)]
 pub struct Line {
     pub table: Table,
-    pub a: Literal,
-    pub b: Literal,
-    pub c: Literal,
-    pub d: Literal,
+    pub literals: PerVariable<Literal>,
 }
 
 /// What the four variables of a table stand for.
-#[derive(Clone, Copy)]
-pub struct Inputs {
-    pub a: Literal,
-    pub b: Literal,
-    pub c: Literal,
-    pub d: Literal,
-}
+pub type Inputs = PerVariable<Literal>;
+
+/// The lines of a plan, in order.
+pub type Lines = FixedList<Line, MOST_LINES>;
 
 impl Literal {
     /// Constant false.
@@ -64,34 +62,25 @@ impl Literal {
         ensures { result ≡ invert_if inverse self }
     {
         Literal {
-            source: self.source,
             inverted: inverse != self.inverted,
+            ..self
         }
     }
 }
 
-impl Inputs {
-    /// What a variable stands for.
-    pub fn of(self, v: Variable) -> Literal
-        ensures { result ≡ stands self v }
-    {
-        match v {
-            Variable::V0 => self.a,
-            Variable::V1 => self.b,
-            Variable::V2 => self.c,
-            Variable::V3 => self.d,
-        }
-    }
-
-    // What a variable of `h` stands for, or constant false where `h` does not depend on it.
-    fn used(self, h: Table, v: Variable) -> Literal
-        ensures { result ≡ used h self v }
-    {
-        if depends_on(h, v) {
-            self.of(v)
-        } else {
-            Literal::FALSE
-        }
+/// One line more behind those that are there; its answer.
+pub fn push_line(lines: &mut Lines, line: Line) -> Literal
+    requires { length (listed lines.old) < MOST_LINES }
+    ensures listed { listed lines.new ≡ listed lines.old ++ line ∷ [] }
+    ensures items { lines.new.items ≡ slice_set lines.old.items lines.old.count line }
+    ensures count { lines.new.count ≡ lines.old.count + 1 }
+    ensures answer { result ≡ nth (length (listed lines.old)) }
+{
+    let n = lines.len();
+    lines.push(line);
+    Literal {
+        source: Source::Line(n),
+        inverted: false,
     }
 }
 
@@ -102,10 +91,11 @@ impl Line {
     {
         Line {
             table,
-            a,
-            b,
-            c: Literal::FALSE,
-            d: Literal::FALSE,
+            literals: PerVariable {
+                a,
+                b,
+                ..PerVariable::splat(Literal::FALSE)
+            },
         }
     }
 
@@ -113,12 +103,18 @@ impl Line {
     pub fn of_table(h: Table, inputs: Inputs) -> Line
         ensures { result ≡ whole_of h inputs }
     {
+        let used = |v: Variable| -> Literal
+            ensures { result ≡ used h inputs v }
+        {
+            if depends_on(h, v) {
+                inputs.at(v)
+            } else {
+                Literal::FALSE
+            }
+        };
         Line {
             table: h,
-            a: inputs.used(h, Variable::V0),
-            b: inputs.used(h, Variable::V1),
-            c: inputs.used(h, Variable::V2),
-            d: inputs.used(h, Variable::V3),
+            literals: VARIABLES.map(used),
         }
     }
 }

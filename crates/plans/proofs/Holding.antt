@@ -1,39 +1,47 @@
--- The steps of the memory of a plan.
-use Rattle.std.proofs.Common.{◌≡◌, ℕ, ◌+◌, ◌<◌, List, [], ◌∷◌, ◌++◌, length, take, set, ap, ◌∙◌, ap₂, append_assoc, add-one, arith, length-append, take-suc-set}
-use Rattle.plans.specs.declared.Literal.{Literal}
-use Rattle.plans.specs.declared.Line.{Line}
-use Rattle.plans.specs.declared.lines.Lines.{Lines}
-use Rattle.plans.specs.Lines.{nth as answer}
-use Rattle.plans.specs.Plans.{or_of, one_more, either}
-use Rattle.plans.specs.Held.{Stored, Held}
+-- Calls of the writer, one behind the other.
+use Rattle.std.proofs.Common.{◌≡◌, ℕ, ◌+◌, ◌≤◌, Bool, true, false, cond, List, [], ◌∷◌, ◌++◌, length, sym, ap, ◌∙◌, append_assoc, add-zero, lit≤, length-append}
+use Rattle.std.proofs.lemmas.Bool.{cond_both}
+use Rattle.lists.specs.Lists.{listed}
+use Rattle.classes.specs.declared.Ownership.{Ownership}
+use Rattle.plan_lines.specs.declared.Literal.{Literal}
+use Rattle.plan_lines.specs.declared.Line.{Line}
+use Rattle.plan_lines.specs.Lines.{nth, invert_if, and_of, or_of, xor_of}
+use Rattle.plans.specs.declared.writer.Writer.{Writer}
+use Rattle.plans.specs.Plans.{Written, one_more, either, xor_lines}
+use Rattle.plans.specs.Held.{line_count, Wrote}
 
-pub push_held : (m : Lines) (l : Line) (base : List Line) (n : ℕ) (ls : List Line) → m.count < length m.items → Stored m base n ls
-    → Held (record { items = set m.items m.count l; count = m.count + 1 }) (answer m.count) base n (one_more n ls l)
-push_held m l base n ls h s =
-    let e : take (m.count + 1) (set m.items m.count l) ≡ take m.count m.items ++ l ∷ [] = ap (λ (k : ℕ). take k (set m.items m.count l)) (add-one m.count) ∙ take-suc-set m.items m.count l h in
-    record {
-      stored = record {
-        lines = e ∙ ap (λ xs. xs ++ l ∷ []) s.lines ∙ append_assoc base ls (l ∷ []);
-        count = let c = s.count in let k = length-append ls (l ∷ []) in omega arith;
-      };
-      result = ap answer s.count;
-    }
+-- x behind the lines ls
+abbrev pub behind : List Line → Written → Written
+behind ls x = record { lines = ls ++ x.lines; result = x.result }
 
--- two lines and their OR, one by one
-pub either_held : (m₁ m₂ m₃ : Lines) (p q r : Literal) (one other last : Line) (base : List Line) (n : ℕ) (ls : List Line)
-    → Held m₁ p base n (one_more n ls one)
-    → (Stored m₁ base n (ls ++ one ∷ []) → Held m₂ q base n (one_more n (ls ++ one ∷ []) other))
-    → (Stored m₂ base n ((ls ++ one ∷ []) ++ other ∷ []) → Held m₃ r base n (one_more n ((ls ++ one ∷ []) ++ other ∷ []) last))
-    → last ≡ or_of p q → Held m₃ r base n (either n ls one other)
-either_held m₁ m₂ m₃ p q r one other last base n ls a f g e =
-    let b = f a.stored in
-    let c = g b.stored in
-    let k : n + length (ls ++ one ∷ []) ≡ n + length ls + 1 = simp length-append (omega arith) in
-    let j : n + length ((ls ++ one ∷ []) ++ other ∷ []) ≡ n + length ls + 2 = simp length-append (omega arith) in
-    let o : last ≡ or_of (answer (n + length ls)) (answer (n + length ls + 1)) = e ∙ ap₂ or_of a.result (b.result ∙ ap answer k) in
-    let x : ((ls ++ one ∷ []) ++ other ∷ []) ++ last ∷ [] ≡ ls ++ one ∷ other ∷ or_of (answer (n + length ls)) (answer (n + length ls + 1)) ∷ [] =
-    ap (λ (y : Line). ((ls ++ one ∷ []) ++ other ∷ []) ++ y ∷ []) o ∙ simp append_assoc in
-    record {
-      stored = record { lines = c.stored.lines ∙ ap (λ (ys : List Line). base ++ ys) x; count = c.stored.count ∙ ap (λ (ys : List Line). n + length ys) x };
-      result = c.result ∙ ap answer j;
-    }
+pub wrote_count : (w v : Writer) (r : Literal) (x : Written) → Wrote w v r x → line_count v ≡ line_count w + length x.lines
+wrote_count w v r x a = ap length a.lines ∙ length-append (listed w.lines) x.lines
+
+-- one call and then another
+pub both_wrote : (w u v : Writer) (q r : Literal) (x y : Written) → Wrote w u q x → Wrote u v r y → Wrote w v r (behind x.lines y)
+both_wrote w u v q r x y a b = record {
+  own = b.own ∙ a.own;
+  inputs = b.inputs ∙ a.inputs;
+  lines = b.lines ∙ ap (λ (ls : List Line). ls ++ y.lines) a.lines ∙ append_assoc (listed w.lines) x.lines y.lines;
+  result = b.result;
+}
+
+-- ---- what is written behind ls, as what is written there with no line of its own before
+
+pub one_more-behind : (n : ℕ) (ls : List Line) (l : Line) → one_more n ls l ≡ behind ls (one_more (n + length ls) [] l)
+one_more-behind n ls l = ap (λ (i : ℕ). record { lines = ls ++ l ∷ []; result = nth i }) (sym (add-zero (n + length ls)))
+
+pub either-behind : (n : ℕ) (ls : List Line) (l k : Line) → either n ls l k ≡ behind ls (either (n + length ls) [] l k)
+either-behind n ls l k =
+    ap (λ (i : ℕ). record { lines = ls ++ l ∷ k ∷ or_of (nth i) (nth (i + 1)) ∷ []; result = nth (i + 2) }) (sym (add-zero (n + length ls)))
+
+pub xor_lines-behind : (own : Ownership) (n : ℕ) (ls : List Line) (p q : Literal) → xor_lines own n ls p q ≡ behind ls (xor_lines own (n + length ls) [] p q)
+xor_lines-behind own n ls p q = cases own.xor
+  where
+    cases : (x : Bool) → cond x (one_more n ls (xor_of p q)) (either n ls (and_of p (invert_if true q)) (and_of (invert_if true p) q))
+        ≡ behind ls (cond x (one_more (n + length ls) [] (xor_of p q)) (either (n + length ls) [] (and_of p (invert_if true q)) (and_of (invert_if true p) q)))
+    cases true = one_more-behind n ls (xor_of p q)
+    cases false = either-behind n ls (and_of p (invert_if true q)) (and_of (invert_if true p) q)
+
+pub xor_lines_few : (own : Ownership) (n : ℕ) (p q : Literal) → length (xor_lines own n [] p q).lines ≤ 3
+xor_lines_few own n p q = cond_both own.xor _ _ (λ (x : Written). length x.lines ≤ 3) (λ _. lit≤ tt) (λ _. lit≤ tt)

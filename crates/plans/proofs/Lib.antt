@@ -1,6 +1,7 @@
 pub mod Holding
 pub mod Writing
-pub mod Answering
+pub mod Reading
 pub mod Sound
 pub mod Owning
+pub mod Ones
 pub mod Promises

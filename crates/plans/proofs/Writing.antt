@@ -1,19 +1,26 @@
--- The writer, rule by rule: the parts are smaller, there is room for them, and what is held is what was to be written.
-use Rattle.std.proofs.Common.{◌≡◌, ℕ, zero, suc, ◌+◌, ◌*◌, ◌<◌, ◌≤◌, Bool, List, [], ◌++◌, length, sym, ap, ◌∙◌, subst, ap₂, inl, inr, append_assoc, append-nil, le_of_suc-le-suc, not-suc-le-zero, add-zero, arith, length-append}
+-- The writer, rule by rule: the parts are smaller, there is room for them, and what is written is what was to be written.
+use Rattle.std.proofs.Common.{◌≡◌, ℕ, zero, suc, ◌+◌, ◌*◌, ◌<◌, ◌≤◌, Bool, false, List, [], length, sym, refl, ap, ◌∙◌, subst, ap₂, inl, inr, le_of_suc-le-suc, not-suc-le-zero, append-nil, arith}
 use Rattle.std.proofs.lemmas.Bool.{cases_lt}
 use Rattle.tables.specs.declared.Variable.{Variable}
+use Rattle.tables.specs.declared.per_variable.PerVariable.{PerVariable}
 use Rattle.tables.specs.Tables.{cofactor, support_size}
 use Rattle.tables.proofs.Support.{support_falls}
+use Rattle.lists.specs.Lists.{listed}
 use Rattle.classes.specs.declared.Ownership.{Ownership}
+use Rattle.rules.specs.declared.Gate.{Gate}
+use Rattle.rules.specs.declared.Owned.{Owned}
 use Rattle.rules.specs.declared.Rule.{Rule}
+use Rattle.rules.specs.declared.Rule.TheVariants.{OneLine, Top, Xor, Shannon}
 use Rattle.rules.specs.Rules.{rule_of}
+use Rattle.rules.specs.First.{FirstThatFits}
 use Rattle.rules.specs.Fits.{Divides}
-use Rattle.plans.specs.declared.Literal.{Literal}
-use Rattle.plans.specs.declared.Line.{Line}
-use Rattle.plans.specs.declared.Inputs.{Inputs}
-use Rattle.plans.specs.declared.lines.Lines.{Lines}
+use Rattle.rules.proofs.Firsts.{one_line_more, top_divides, xor_divides, shannon_divides}
+use Rattle.plan_lines.specs.declared.Literal.{Literal}
+use Rattle.plan_lines.specs.declared.Line.{Line}
+use Rattle.plans.specs.declared.writer.Writer.{Writer}
 use Rattle.plans.specs.Plans.{Written, by_rule, write, bound}
-use Rattle.plans.specs.Held.{listed, Stored, Held}
+use Rattle.plans.specs.Held.{line_count, Wrote}
+use Rattle.plans.proofs.Holding.{behind, wrote_count, both_wrote}
 
 -- ---- the room
 
@@ -30,92 +37,85 @@ bound_mono a (suc n) h =
       | inr l ↦ (let i = bound_mono a n l in let s = bound_suc n in omega arith)
     ]
 
-pub bound_step : (a b : ℕ) → a < b → 2 ≤ b → 3 + 2 * bound a ≤ bound b
+bound_step : (a b : ℕ) → a < b → 2 ≤ b → 3 + 2 * bound a ≤ bound b
 bound_step a zero h l = let z : ⊥ = omega arith in absurd z
 bound_step a (suc zero) h l = let z : ⊥ = omega arith in absurd z
 bound_step a (suc (suc b)) h l = let m = bound_mono a (suc b) (le_of_suc-le-suc h) in omega arith
 
-pub bound_three : (b : ℕ) → 2 ≤ b → 3 ≤ bound b
+bound_three : (b : ℕ) → 2 ≤ b → 3 ≤ bound b
 bound_three b l = let s = bound_step 0 b (omega arith) l in omega arith
 
 pub record Part (h p : ℕ) : Type 0 where
   pub falls : support_size p < support_size h
   pub room : 3 + 2 * bound (support_size p) ≤ bound (support_size h)
 
-pub part_of : (h p : ℕ) (v : Variable) (t : Bool) → Divides h v → p ≡ cofactor h v t → Part h p
-part_of h p v t d e =
-    let f : support_size p < support_size h = subst (λ (g : ℕ). support_size g < support_size h) (sym e) (support_falls h v t d.depends) in
-    record { falls = f; room = bound_step (support_size p) (support_size h) f d.more }
+part_of : (h : ℕ) (v : Variable) (t : Bool) → Divides h v → Part h (cofactor h v t)
+part_of h v t d =
+    let f = support_falls h v t d.depends in
+    record { falls = f; room = bound_step (support_size (cofactor h v t)) (support_size h) f d.more }
 
--- the same of a part that the code has written, and of what it may still write, without a name for the part's table
-pub part_adds : (h p : ℕ) (v : Variable) (t : Bool) (n m : ℕ) → Divides h v → p ≡ cofactor h v t → m ≤ n + bound (support_size p)
-    → 3 + 2 * m ≤ bound (support_size h) + 2 * n
-part_adds h p v t n m d e few = let r = (part_of h p v t d e).room in omega (arith, few)
+-- a part is smaller than the table, and there is room for it
+pub top_part : (own : Ownership) (h : ℕ) (g : Gate) (v : Variable) (s : Bool) → h < 65536 → FirstThatFits own h (Top g v s) → Part h (cofactor h v s)
+top_part own h g v s l f = part_of h v s (top_divides own h g v s l f)
 
-pub part_falls : (h p : ℕ) (v : Variable) (t : Bool) → Divides h v → p ≡ cofactor h v t → support_size p < support_size h
-part_falls h p v t d e = (part_of h p v t d e).falls
+pub xor_falls : (own : Ownership) (h : ℕ) (v : Variable) → h < 65536 → FirstThatFits own h (Xor v) → support_size (cofactor h v false) < support_size h
+xor_falls own h v l f = (part_of h v false (xor_divides own h v l f)).falls
 
-pub part_asks : (h p : ℕ) (v : Variable) (t : Bool) (n : ℕ) → Divides h v → p ≡ cofactor h v t → 2 * n + bound (support_size h) ≤ 45 → n + bound (support_size p) ≤ 21
-part_asks h p v t n d e few = let r = (part_of h p v t d e).room in omega (arith, few)
+pub xor_room : (own : Ownership) (h : ℕ) (v : Variable) → h < 65536 → FirstThatFits own h (Xor v) → 3 + 2 * bound (support_size (cofactor h v false)) ≤ bound (support_size h)
+xor_room own h v l f = (part_of h v false (xor_divides own h v l f)).room
 
--- ---- what is held
+pub shannon_falls : (own : Ownership) (h : ℕ) (v : Variable) (s : Bool) → h < 65536 → FirstThatFits own h (Shannon v) → support_size (cofactor h v s) < support_size h
+shannon_falls own h v s l f = (part_of h v s (shannon_divides own h v l f)).falls
 
-pub start : (m : Lines) → Stored m (listed m) m.count []
-start m = record { lines = sym (append-nil (listed m)); count = sym (add-zero m.count) }
+pub shannon_room : (own : Ownership) (h : ℕ) (v : Variable) (s : Bool) → h < 65536 → FirstThatFits own h (Shannon v) → 3 + 2 * bound (support_size (cofactor h v s)) ≤ bound (support_size h)
+shannon_room own h v s l f = (part_of h v s (shannon_divides own h v l f)).room
+
+pub one_line_room : (own : Ownership) (h : ℕ) (o : Owned) → h < 65536 → FirstThatFits own h (OneLine o) → 3 ≤ bound (support_size h)
+one_line_room own h o l f = bound_three (support_size h) (one_line_more own h o l f)
+
+-- what the generated proofs of the writer need of its parts
+pub ruleset parts = (xor_falls, xor_room, shannon_falls, shannon_room, one_line_room)
+
+-- ---- what is written
+
+-- from w to v, what the definition writes for h was written, with the result r
+abbrev pub WritesTable : Writer → Writer → Literal → ℕ → Type 0
+WritesTable w v r h = (k : ℕ) → support_size h < k → Wrote w v r (write k w.own w.inputs (line_count w) h)
 
 -- what the rule writes is what the table's plan is
-ruled : (own : Ownership) (bs : Inputs) (n h j : ℕ) (rule : Rule) → rule ≡ rule_of own h → by_rule own bs n h (write j own bs) rule ≡ write (suc j) own bs n h
+ruled : (own : Ownership) (bs : PerVariable Literal) (n h j : ℕ) (rule : Rule) → rule ≡ rule_of own h → by_rule own bs n h (write j own bs) rule ≡ write (suc j) own bs n h
 unfolding write
 ruled own bs n h j rule e = ap (by_rule own bs n h (write j own bs)) e
 
--- a rule without parts
-pub no_part : (m m₁ : Lines) (r : Literal) (own : Ownership) (bs : Inputs) (h : ℕ) (rule : Rule) (w : ℕ → Written)
-    → rule ≡ rule_of own h → ((f : ℕ → ℕ → Written) (n : ℕ) → by_rule own bs n h f rule ≡ w n) → Held m₁ r (listed m) m.count (w m.count)
-    → (k : ℕ) → support_size h < k → Held m₁ r (listed m) m.count (write k own bs m.count h)
-no_part m m₁ r own bs h rule w e b a zero l = absurd (not-suc-le-zero l)
-no_part m m₁ r own bs h rule w e b a (suc j) l =
-    subst (Held m₁ r (listed m) m.count) (sym (b (write j own bs) m.count) ∙ ruled own bs m.count h j rule e) a
+-- a call that writes what the rule does, whatever number is above the size of the support
+pub by_its_rule : (w v : Writer) (r : Literal) (h : ℕ) (rule : Rule) → rule ≡ rule_of w.own h
+    → ((j : ℕ) → support_size h < suc j → Wrote w v r (by_rule w.own w.inputs (line_count w) h (write j w.own w.inputs) rule)) → WritesTable w v r h
+by_its_rule w v r h rule e a zero l = absurd (not-suc-le-zero l)
+by_its_rule w v r h rule e a (suc j) l = subst (Wrote w v r) (ruled w.own w.inputs (line_count w) h j rule e) (a j l)
 
--- a rule with one part; next is what follows the part's lines, with the part's result
-pub one_part : (m m₁ m₂ : Lines) (q r : Literal) (own : Ownership) (bs : Inputs) (h p : ℕ) (v : Variable) (t : Bool) (rule : Rule) (next : ℕ → List Line → Literal → Written)
-    → rule ≡ rule_of own h → ((f : ℕ → ℕ → Written) (n : ℕ) → by_rule own bs n h f rule ≡ next n (f n (cofactor h v t)).lines (f n (cofactor h v t)).result)
-    → support_size p < support_size h → p ≡ cofactor h v t
-    → ((k : ℕ) → support_size p < k → Held m₁ q (listed m) m.count (write k own bs m.count p))
-    → ((base : List Line) (n : ℕ) (ls : List Line) → Stored m₁ base n ls → Held m₂ r base n (next n ls q))
-    → (k : ℕ) → support_size h < k → Held m₂ r (listed m) m.count (write k own bs m.count h)
-one_part m m₁ m₂ q r own bs h p v t rule next e b f d part more zero l = absurd (not-suc-le-zero l)
-one_part m m₁ m₂ q r own bs h p v t rule next e b f d part more (suc j) l =
-    let n : ℕ = m.count in
-    let a = part j (omega arith) in
-    let c = more (listed m) n (write j own bs n p).lines a.stored in
-    let x : next n (write j own bs n p).lines q ≡ next n (write j own bs n (cofactor h v t)).lines (write j own bs n (cofactor h v t)).result =
-    ap (next n (write j own bs n p).lines) a.result ∙ ap (λ (g : ℕ). next n (write j own bs n g).lines (write j own bs n g).result) d in
-    subst (Held m₂ r (listed m) n) (x ∙ sym (b (write j own bs) n) ∙ ruled own bs n h j rule e) c
+-- nothing is written
+pub no_line : (w : Writer) (r q : Literal) → r ≡ q → Wrote w w r (record { lines = []; result = q })
+no_line w r q e = record { own = refl; inputs = refl; lines = sym (append-nil (listed w.lines)); result = e }
 
--- a rule with two parts, the second written behind the first
-pub two_parts : (m m₁ m₂ m₃ : Lines) (q s r : Literal) (own : Ownership) (bs : Inputs) (h p g : ℕ) (v : Variable) (t u : Bool) (rule : Rule) (next : ℕ → List Line → Literal → Literal → Written)
-    → rule ≡ rule_of own h
-    → ((f : ℕ → ℕ → Written) (n : ℕ) → by_rule own bs n h f rule ≡ next n ((f n (cofactor h v t)).lines ++ (f (n + length (f n (cofactor h v t)).lines) (cofactor h v u)).lines) (f n (cofactor h v t)).result (f (n + length (f n (cofactor h v t)).lines) (cofactor h v u)).result)
-    → support_size p < support_size h → p ≡ cofactor h v t → support_size g < support_size h → g ≡ cofactor h v u
-    → ((k : ℕ) → support_size p < k → Held m₁ q (listed m) m.count (write k own bs m.count p))
-    → ((k : ℕ) → support_size g < k → Held m₂ s (listed m₁) m₁.count (write k own bs m₁.count g))
-    → ((base : List Line) (n : ℕ) (ls : List Line) → Stored m₂ base n ls → Held m₃ r base n (next n ls q s))
-    → (k : ℕ) → support_size h < k → Held m₃ r (listed m) m.count (write k own bs m.count h)
-two_parts m m₁ m₂ m₃ q s r own bs h p g v t u rule next e b f d f' d' part other more zero l = absurd (not-suc-le-zero l)
-two_parts m m₁ m₂ m₃ q s r own bs h p g v t u rule next e b f d f' d' part other more (suc j) l =
-    let n : ℕ = m.count in
-    let a = part j (omega arith) in
-    let c = other j (omega arith) in
-    let w : Written = write j own bs n p in
-    let at : m₁.count ≡ n + length w.lines = a.stored.count in
-    let x : Written = write j own bs (n + length w.lines) g in
-    let is : write j own bs m₁.count g ≡ x = ap (λ (i : ℕ). write j own bs i g) at in
-    let stored : Stored m₂ (listed m) n (w.lines ++ x.lines) = record {
-      lines = c.stored.lines ∙ ap₂ (λ (ys zs : List Line). ys ++ zs) a.stored.lines (ap (λ (y : Written). y.lines) is) ∙ append_assoc (listed m) w.lines x.lines;
-      count = (let i = c.stored.count in let k = ap (λ (y : Written). length y.lines) is in let y = length-append w.lines x.lines in omega arith);
-    } in
-    let z = more (listed m) n (w.lines ++ x.lines) stored in
-    let one = cofactor h v t in
-    let y : next n (w.lines ++ x.lines) q s ≡ next n (w.lines ++ x.lines) w.result x.result = ap₂ (next n (w.lines ++ x.lines)) a.result (c.result ∙ ap (λ (i : Written). i.result) is) in
-    let both : ℕ → ℕ → Written = λ p' g'. next n ((write j own bs n p').lines ++ (write j own bs (n + length (write j own bs n p').lines) g').lines) (write j own bs n p').result (write j own bs (n + length (write j own bs n p').lines) g').result in
-    subst (Held m₃ r (listed m) n) (y ∙ ap₂ both d d' ∙ sym (b (write j own bs) n) ∙ ruled own bs n h j rule e) z
+-- a part is what the definition writes for the cofactor that it is
+pub part_wrote : (w u : Writer) (q : Literal) (p g j : ℕ) → p ≡ g → support_size g < j → WritesTable w u q p → Wrote w u q (write j w.own w.inputs (line_count w) g)
+part_wrote w u q p g j e l part = subst (λ (f : ℕ). support_size f < j → Wrote w u q (write j w.own w.inputs (line_count w) f)) e (part j) l
+
+-- a second part, behind the lines of the first
+pub next_part_wrote : (w u v : Writer) (q s : Literal) (x : Written) (p g j : ℕ) → Wrote w u q x → p ≡ g → support_size g < j → WritesTable u v s p
+    → Wrote w v s (behind x.lines (write j w.own w.inputs (line_count w + length x.lines) g))
+next_part_wrote w u v q s x p g j a e l part =
+    both_wrote w u v q s x (write j w.own w.inputs (line_count w + length x.lines) g) a
+    (subst (Wrote u v s)
+    (ap₂ (λ (o : Ownership) (bs : PerVariable Literal). write j o bs (line_count u) g) a.own a.inputs
+    ∙ ap (λ (i : ℕ). write j w.own w.inputs i g) (wrote_count w u q x a))
+    (part_wrote u v s p g j e l part))
+
+-- what follows the parts; next says it by the number of lines before and the parts' lines
+pub followed : (w u v : Writer) (q r : Literal) (x : Written) (next : ℕ → List Line → Written)
+    → ((n : ℕ) (ls : List Line) → next n ls ≡ behind ls (next (n + length ls) [])) → Wrote w u q x → Wrote u v r (next (line_count u) [])
+    → Wrote w v r (next (line_count w) x.lines)
+followed w u v q r x next law a b =
+    subst (Wrote w v r) (sym (law (line_count w) x.lines))
+    (both_wrote w u v q r x (next (line_count w + length x.lines) []) a
+    (subst (λ (n : ℕ). Wrote u v r (next n [])) (wrote_count w u q x a) b))

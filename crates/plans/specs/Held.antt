@@ -1,20 +1,17 @@
--- What the memory of a plan holds.
-use Rattle.std.specs.Prelude.{◌≡◌, ℕ, ◌+◌, List, ◌++◌, length, take}
-use Rattle.plans.specs.declared.Literal.{Literal}
-use Rattle.plans.specs.declared.Line.{Line}
-use Rattle.plans.specs.declared.lines.Lines.{Lines}
+-- What the writer has written before and after a call.
+use Rattle.std.specs.Prelude.{◌≡◌, ℕ, ◌++◌, length}
+use Rattle.lists.specs.Lists.{listed}
+use Rattle.plan_lines.specs.declared.Literal.{Literal}
+use Rattle.plans.specs.declared.writer.Writer.{Writer}
 use Rattle.plans.specs.Plans.{Written}
 
--- the lines that are held
-abbrev pub listed : Lines → List Line
-listed m = take m.count m.items
+-- how many lines there are
+abbrev pub line_count : Writer → ℕ
+line_count w = length (listed w.lines)
 
--- it holds base, of n lines, and then ls
-pub record Stored (m : Lines) (base : List Line) (n : ℕ) (ls : List Line) : Type 0 where
-  pub lines : listed m ≡ base ++ ls
-  pub count : m.count ≡ n + length ls
-
--- it holds base, of n lines, and then what was written, with its result
-pub record Held (m : Lines) (r : Literal) (base : List Line) (n : ℕ) (w : Written) : Type 0 where
-  pub stored : Stored m base n w.lines
-  pub result : r ≡ w.result
+-- from w to v the lines of x were written, with the result r
+pub record Wrote (w v : Writer) (r : Literal) (x : Written) : Type 0 where
+  pub own : v.own ≡ w.own
+  pub inputs : v.inputs ≡ w.inputs
+  pub lines : listed v.lines ≡ listed w.lines ++ x.lines
+  pub result : r ≡ x.result

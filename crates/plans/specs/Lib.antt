@@ -1,3 +1,3 @@
-pub mod Lines
 pub mod Plans
 pub mod Held
+pub mod Promises

@@ -1,47 +1,28 @@
 -- The plan of a table: its lines and its result, by the first rule that fits it and then its parts.
-use Rattle.std.specs.Prelude.{◌≡◌, ℕ, zero, suc, ◌+◌, ◌*◌, Bool, true, false, cond, List, [], ◌∷◌, ◌++◌, length}
+use Rattle.std.specs.Prelude.{ℕ, zero, suc, ◌+◌, ◌*◌, Bool, true, false, cond, not, List, [], ◌∷◌, ◌++◌, length}
 use Rattle.tables.specs.declared.Variable.{Variable}
+use Rattle.tables.specs.PerVariable.{at}
 use Rattle.tables.specs.declared.Variable.TheVariants.{V0, V1, V2, V3}
-use Rattle.tables.specs.Settings.{Setting}
-use Rattle.tables.specs.Tables.{cofactor, depends_on}
+use Rattle.tables.specs.Tables.{cofactor}
 use Rattle.classes.specs.declared.Ownership.{Ownership}
-use Rattle.classes.specs.declared.Transform.{Transform}
-use Rattle.classes.specs.Owned.{owns}
-use Rattle.classes.specs.Images.{mask_at, place_in, representative, chosen_transform}
+use Rattle.transforms.specs.declared.Transform.{Transform}
+use Rattle.transforms.specs.Orders.{position_in}
+use Rattle.transforms.specs.Images.{mask_at, representative, chosen_transform}
+use Rattle.rules.specs.declared.Gate.{Gate}
+use Rattle.rules.specs.declared.Gate.TheVariants.{And, Or}
 use Rattle.rules.specs.declared.Rule.{Rule}
-use Rattle.rules.specs.declared.Rule.TheVariants.{Constant, Single, Whole, AndLow, AndHigh, OrLow, OrHigh, Exclusive, Split}
+use Rattle.rules.specs.declared.Rule.TheVariants.{Constant, Single, OneLine, Top, Xor, Shannon}
 use Rattle.rules.specs.Rules.{rule_of}
-use Rattle.plans.specs.declared.Source.TheVariants as source
-use Rattle.plans.specs.declared.Literal.{Literal}
-use Rattle.plans.specs.declared.Line.{Line}
-use Rattle.plans.specs.declared.Inputs.{Inputs}
-use Rattle.plans.specs.Lines.{nothing, nth, turned, stands, literal_value, answers}
+use Rattle.plan_lines.specs.declared.Source.TheVariants as source
+use Rattle.plan_lines.specs.declared.Literal.{Literal}
+use Rattle.plan_lines.specs.declared.Line.{Line}
+use Rattle.tables.specs.declared.per_variable.PerVariable.{PerVariable}
+use Rattle.plan_lines.specs.Lines.{constant_false, nth, invert_if, and_of, or_of, xor_of, whole_of}
 
 -- lines, and the literal that holds the table's value after them
 pub record Written : Type 0 where
   pub lines : List Line
   pub result : Literal
-
--- ---- the forms of lines
-
-abbrev pub two_of : ℕ → Literal → Literal → Line
-two_of f p q = record { table = f; a = p; b = q; c = nothing; d = nothing }
-
-abbrev pub and_of : Literal → Literal → Line
-and_of = two_of 0x8888
-
-abbrev pub or_of : Literal → Literal → Line
-or_of = two_of 0xEEEE
-
-abbrev pub xor_of : Literal → Literal → Line
-xor_of = two_of 0x6666
-
--- what v stands for, or nothing where the table does not depend on v
-abbrev pub used : ℕ → Inputs → Variable → Literal
-used h bs v = cond (depends_on h v) (stands bs v) nothing
-
-abbrev pub whole_of : ℕ → Inputs → Line
-whole_of h bs = record { table = h; a = used h bs V0; b = used h bs V1; c = used h bs V2; d = used h bs V3 }
 
 -- ---- the lines that follow those of the parts; n is the number of lines before
 
@@ -54,47 +35,57 @@ abbrev pub either : ℕ → List Line → Line → Line → Written
 either n ls l k =
     record { lines = ls ++ l ∷ k ∷ or_of (nth (n + length ls)) (nth (n + length ls + 1)) ∷ []; result = nth (n + length ls + 2) }
 
+-- the line of rule 4: AND(not v, h0), AND(v, h1), OR(v, h0) or OR(not v, h1), where s is true for h1
+abbrev pub top_of : Gate → Bool → Literal → Literal → Line
+top_of And s p q = and_of (invert_if (not s) p) q
+top_of Or s p q = or_of (invert_if s p) q
+
 -- the exclusive-or of two literals, as one line or as three
-abbrev pub exclusive : Ownership → ℕ → List Line → Literal → Literal → Written
-exclusive own n ls p q = cond own.xor (one_more n ls (xor_of p q)) (either n ls (and_of p (turned true q)) (and_of (turned true p) q))
+abbrev pub xor_lines : Ownership → ℕ → List Line → Literal → Literal → Written
+xor_lines own n ls p q = cond own.xor (one_more n ls (xor_of p q)) (either n ls (and_of p (invert_if true q)) (and_of (invert_if true p) q))
 
 -- the OR of the AND of p and q, and the AND of p inverted and r
-abbrev pub split : ℕ → List Line → Literal → Literal → Literal → Written
-split n ls p q r = either n ls (and_of p q) (and_of (turned true p) r)
+abbrev pub shannon_lines : ℕ → List Line → Literal → Literal → Literal → Written
+shannon_lines n ls p q r = either n ls (and_of p q) (and_of (invert_if true p) r)
 
 -- what a rule writes; part m g is what is written for g after m lines
-abbrev pub by_rule : Ownership → Inputs → ℕ → ℕ → (ℕ → ℕ → Written) → Rule → Written
-by_rule own bs n h part (Constant b) = record { lines = []; result = turned b nothing }
-by_rule own bs n h part (Single v i) = record { lines = []; result = turned i (stands bs v) }
-by_rule own bs n h part Whole = one_more n [] (whole_of h bs)
-by_rule own bs n h part (AndLow v) = let p = part n (cofactor h v false) in one_more n p.lines (and_of (turned true (stands bs v)) p.result)
-by_rule own bs n h part (AndHigh v) = let p = part n (cofactor h v true) in one_more n p.lines (and_of (stands bs v) p.result)
-by_rule own bs n h part (OrLow v) = let p = part n (cofactor h v false) in one_more n p.lines (or_of (stands bs v) p.result)
-by_rule own bs n h part (OrHigh v) = let p = part n (cofactor h v true) in one_more n p.lines (or_of (turned true (stands bs v)) p.result)
-by_rule own bs n h part (Exclusive v) = let p = part n (cofactor h v false) in exclusive own n p.lines (stands bs v) p.result
-by_rule own bs n h part (Split v) =
+abbrev pub by_rule : Ownership → PerVariable Literal → ℕ → ℕ → (ℕ → ℕ → Written) → Rule → Written
+by_rule own bs n h part (Constant b) = record { lines = []; result = invert_if b constant_false }
+by_rule own bs n h part (Single v i) = record { lines = []; result = invert_if i (at bs v) }
+by_rule own bs n h part (OneLine o) = one_more n [] (whole_of h bs)
+by_rule own bs n h part (Top g v s) =
+    let p = part n (cofactor h v s) in
+    one_more n p.lines (top_of g s (at bs v) p.result)
+by_rule own bs n h part (Xor v) =
+    let p = part n (cofactor h v false) in
+    xor_lines own n p.lines (at bs v) p.result
+by_rule own bs n h part (Shannon v) =
     let p = part n (cofactor h v true) in
     let q = part (n + length p.lines) (cofactor h v false) in
-    split n (p.lines ++ q.lines) (stands bs v) p.result q.result
+    shannon_lines n (p.lines ++ q.lines) (at bs v) p.result q.result
 
 -- what is written for h after n lines; k is any number above the size of the support
-unfoldable pub write : ℕ → Ownership → Inputs → ℕ → ℕ → Written
-write zero own bs n h = record { lines = []; result = nothing }
+unfoldable pub write : ℕ → Ownership → PerVariable Literal → ℕ → ℕ → Written
+write zero own bs n h = record { lines = []; result = constant_false }
 write (suc k) own bs n h = by_rule own bs n h (write k own bs) (rule_of own h)
 
 -- ---- the plan of a table, over the four signals of the table itself
 
--- what variable v of the representative stands for
-abbrev pub input : Transform → Variable → Literal
-input t v = record { source = source.Input (place_in t.order v); inverted = mask_at t.mask (place_in t.order v) }
+-- signal k of the table, inverted where the transform inverts it
+abbrev pub signal : Transform → Variable → Literal
+signal t k = record { source = source.Input k; inverted = mask_at t.mask k }
 
-abbrev pub inputs : Transform → Inputs
+-- what variable v of the representative stands for: the signal at whose position the order has v
+abbrev pub input : Transform → Variable → Literal
+input t v = signal t (position_in t.order v)
+
+abbrev pub inputs : Transform → PerVariable Literal
 inputs t = record { a = input t V0; b = input t V1; c = input t V2; d = input t V3 }
 
 unfoldable pub plan_of : Ownership → ℕ → Written
 plan_of own f =
     let w = write 5 own (inputs (chosen_transform f)) 0 (representative f) in
-    record { lines = w.lines; result = turned (chosen_transform f).output w.result }
+    record { lines = w.lines; result = invert_if (chosen_transform f).output w.result }
 
 -- ---- how long a plan can be: three lines and two parts at each variable past the first
 
@@ -102,14 +93,3 @@ abbrev pub bound : ℕ → ℕ
 bound zero = 0
 bound (suc zero) = 0
 bound (suc (suc n)) = 3 + 2 * bound (suc n)
-
--- ---- what a plan promises
-
--- the value of what is written, at a setting of the four signals
-abbrev pub plan_value : Setting → Written → Bool
-plan_value y w = literal_value y (answers y [] w.lines) w.result
-
--- the class of every line's table is owned
-abbrev pub EachOwned : Ownership → List Line → Type 0
-EachOwned own [] = Unit {0}
-EachOwned own (l ∷ ls) = (owns own l.table ≡ true) × EachOwned own ls

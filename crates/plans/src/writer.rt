@@ -1,143 +1,119 @@
-// The recursive writer of plans.
-ghost use Rattle.std.specs.Prelude.{◌≡◌, ℕ, ◌+◌, ◌<◌, ◌≤◌, List, length};
-ghost use Rattle.tables.specs.Settings.{Setting};
-ghost use Rattle.tables.specs.Tables.{value, support_size};
-ghost use Rattle.plans.specs.Plans.{write, exclusive, bound, input, inputs, plan_of, plan_value, EachOwned};
-ghost use Rattle.plans.specs.Held.{Held, Stored, listed};
+// The recursive writer: each table by its rule, the lines of a part before the line that reads it.
+ghost use Rattle.std.specs.Prelude.{◌≡◌, ℕ, ◌+◌, ◌<◌, ◌≤◌, []};
+ghost use Rattle.tables.specs.Tables.{support_size};
+ghost use Rattle.lists.specs.Lists.{listed};
+ghost use Rattle.plans.specs.Plans.{one_more, top_of, either, xor_lines, shannon_lines, write, bound};
+ghost use Rattle.plans.specs.Held.{line_count, Wrote};
 
-use crate::lines::{Lines, NOTHING, two_of, whole_line};
-use crate::{Inputs, Line, Literal, Source};
-use classes::search::classify;
-use classes::{Ownership, Transform};
-use rules::{Rule, choose_rule};
-use tables::{Table, Variable, high_cofactor, low_cofactor};
+use classes::Ownership;
+use plan_lines::{AND, Inputs, Line, Lines, Literal, MOST_LINES, OR, XOR, push_line};
+use rules::{Gate, Rule, choose_rule};
+use tables::{FALSE, Table, cofactor};
 
-const AND: Table = 0x8888;
-
-const OR: Table = 0xEEEE;
-
-const XOR: Table = 0x6666;
-
-// The exclusive-or of two literals: one line where it is owned, else three.
-fn write_exclusive(own: Ownership, p: Literal, q: Literal, lines: &mut Lines) -> Literal
-    requires { lines.old.count + 3 ≤ 21 }
-    ensures few { lines.new.count ≤ lines.old.count + 3 }
-    ensures held { (base : List Line) (n : ℕ) (ls : List Line) → Stored lines.old base n ls → Held lines.new result base n (exclusive own n ls p q) }
-{
-    if own.xor {
-        lines.push(two_of(XOR, p, q))
-    } else {
-        lines.push_either(two_of(AND, p, q.turn(true)), two_of(AND, p.turn(true), q))
-    }
-}
-
-// Writes a table behind the lines that are there; its result.
-fn write_table(h: Table, own: Ownership, inputs: Inputs, lines: &mut Lines) -> Literal
-    requires { lines.old.count + bound (support_size h) ≤ 21 }
-    ensures few { lines.new.count ≤ lines.old.count + bound (support_size h) }
-    ensures held { (k : ℕ) → support_size h < k → Held lines.new result (listed lines.old) lines.old.count (write k own inputs lines.old.count h) }
-{
-    match choose_rule(own, h) {
-        Rule::Constant(b) => NOTHING.turn(b),
-        Rule::Single(v, inverse) => inputs.of(v).turn(inverse),
-        Rule::Whole => lines.push(whole_line(h, inputs)),
-        Rule::AndLow(v) => {
-            let part = write_table(low_cofactor(h, v), own, inputs, lines);
-            lines.push(two_of(AND, inputs.of(v).turn(true), part))
-        }
-        Rule::AndHigh(v) => {
-            let part = write_table(high_cofactor(h, v), own, inputs, lines);
-            lines.push(two_of(AND, inputs.of(v), part))
-        }
-        Rule::OrLow(v) => {
-            let part = write_table(low_cofactor(h, v), own, inputs, lines);
-            lines.push(two_of(OR, inputs.of(v), part))
-        }
-        Rule::OrHigh(v) => {
-            let part = write_table(high_cofactor(h, v), own, inputs, lines);
-            lines.push(two_of(OR, inputs.of(v).turn(true), part))
-        }
-        Rule::Exclusive(v) => {
-            let part = write_table(low_cofactor(h, v), own, inputs, lines);
-            write_exclusive(own, inputs.of(v), part, lines)
-        }
-        Rule::Split(v) => {
-            let high = write_table(high_cofactor(h, v), own, inputs, lines);
-            let low = write_table(low_cofactor(h, v), own, inputs, lines);
-            let p = inputs.of(v);
-            lines.push_either(two_of(AND, p, high), two_of(AND, p.turn(true), low))
-        }
-    }
-}
-
-/// The plan of a table: place calls over its four signals, and the literal that then has the table's value.
+/// The lines written so far, for the classes that are owned and over what the variables stand for.
 #[derive(Clone, Copy)]
-pub struct Plan {
-    lines: Lines,
-    result: Literal,
-    ghost few: { lines.count ≤ 21 },
+pub(crate) struct Writer {
+    own: Ownership,
+    inputs: Inputs,
+    pub(crate) lines: Lines,
 }
 
-// What variable `v` of the representative stands for.
-fn input_of(t: Transform, v: Variable) -> Literal
-    ensures { result ≡ input t v }
+// The AND or the OR of what a variable stands for and a part, which is the high cofactor or the low one.
+fn top_line(gate: Gate, high: bool, p: Literal, part: Literal) -> Line
+    ensures { result ≡ top_of gate high p part }
 {
-    let k = t.order().place_of(v);
-    Literal {
-        source: Source::Input(k),
-        inverted: t.inverts(k),
+    match gate {
+        Gate::And => Line::of_two(AND, p.invert_if(!high), part),
+        Gate::Or => Line::of_two(OR, p.invert_if(high), part),
     }
 }
 
-fn inputs_of(t: Transform) -> Inputs
-    ensures { result ≡ inputs t }
-{
-    Inputs {
-        a: input_of(t, Variable::V0),
-        b: input_of(t, Variable::V1),
-        c: input_of(t, Variable::V2),
-        d: input_of(t, Variable::V3),
-    }
-}
-
-/// The plan of a table for the classes that are owned.
-pub fn plan_table(own: Ownership, f: Table) -> Plan
-    ensures lines { listed result.lines ≡ (plan_of own f).lines }
-    ensures result { result.result ≡ (plan_of own f).result }
-    ensures value { (y : Setting) → plan_value y (record { lines = listed result.lines; result = result.result }) ≡ value f y }
-    ensures few { length (listed result.lines) ≤ bound (support_size f) }
-    ensures most { length (listed result.lines) ≤ 21 }
-    ensures owned { EachOwned own (listed result.lines) }
-{
-    let class = classify(f);
-    let t = class.transform;
-    let mut lines = Lines::new();
-    let result = write_table(class.representative, own, inputs_of(t), &mut lines);
-    Plan {
-        lines,
-        result: result.turn(t.output()),
-    }
-}
-
-impl Plan {
-    /// The lines, in order.
-    pub fn lines(&self) -> &[Line]
-        ensures { result.now ≡ listed self.now.lines }
+impl Writer {
+    /// No line.
+    pub(crate) fn new(own: Ownership, inputs: Inputs) -> Writer
+        ensures own { result.own ≡ own }
+        ensures inputs { result.inputs ≡ inputs }
+        ensures lines { listed result.lines ≡ [] }
     {
-        self.lines.as_slice()
+        Writer {
+            own,
+            inputs,
+            lines: Lines::new(Line::of_two(FALSE, Literal::FALSE, Literal::FALSE)),
+        }
     }
 
-    /// How many lines it has.
-    pub fn len(&self) -> usize
-        ensures { result ≡ length (listed self.now.lines) }
+    // One line more; its answer.
+    fn push(&mut self, line: Line) -> Literal
+        requires { line_count self.old < MOST_LINES }
+        ensures { Wrote self.old self.new result (one_more (line_count self.old) [] line) }
     {
-        self.lines().len()
+        push_line(&mut self.lines, line)
     }
 
-    /// The literal that has the table's value after the lines.
-    pub fn result(&self) -> Literal
-        ensures { result ≡ self.now.result }
+    // Two lines and their OR; its answer. Room for three lines is asked by each of these three: it is no fact of every writer.
+    fn write_or(&mut self, one: Line, other: Line) -> Literal
+        requires { line_count self.old + 3 ≤ MOST_LINES }
+        ensures { Wrote self.old self.new result (either (line_count self.old) [] one other) }
     {
-        self.result
+        let p = self.push(one);
+        let q = self.push(other);
+        self.push(Line::of_two(OR, p, q))
+    }
+
+    // The exclusive-or of two literals: one line where it is owned, else three.
+    fn write_xor(&mut self, p: Literal, q: Literal) -> Literal
+        requires { line_count self.old + 3 ≤ MOST_LINES }
+        ensures { Wrote self.old self.new result (xor_lines self.old.own (line_count self.old) [] p q) }
+    {
+        if self.own.xor {
+            self.push(Line::of_two(XOR, p, q))
+        } else {
+            self.write_or(
+                Line::of_two(AND, p, q.invert_if(true)),
+                Line::of_two(AND, p.invert_if(true), q),
+            )
+        }
+    }
+
+    // The choice of one literal by another: `high` where `p` is true, and `low` elsewhere.
+    fn write_shannon(&mut self, p: Literal, high: Literal, low: Literal) -> Literal
+        requires { line_count self.old + 3 ≤ MOST_LINES }
+        ensures { Wrote self.old self.new result (shannon_lines (line_count self.old) [] p high low) }
+    {
+        self.write_or(
+            Line::of_two(AND, p, high),
+            Line::of_two(AND, p.invert_if(true), low),
+        )
+    }
+
+    /// Writes a table behind the lines that are there; its result.
+    #[tactic(auto, using(crate::proofs::Writing::parts))]
+    pub(crate) fn write(&mut self, h: Table) -> Literal
+        requires { line_count self.old + bound (support_size h) ≤ MOST_LINES }
+        ensures few { line_count self.new ≤ line_count self.old + bound (support_size h) }
+        ensures held { (k : ℕ) → support_size h < k
+            → Wrote self.old self.new result (write k self.old.own self.old.inputs (line_count self.old) h) }
+    {
+        match choose_rule(self.own, h) {
+            Rule::Constant(b) => Literal::FALSE.invert_if(b),
+            Rule::Single(v, inverse) => self.inputs.at(v).invert_if(inverse),
+            Rule::OneLine(_) => self.push(Line::of_table(h, self.inputs)),
+            Rule::Top(gate, v, high) => {
+                let p = self.inputs.at(v);
+                let part = self.write(cofactor(h, v, high));
+                self.push(top_line(gate, high, p, part))
+            }
+            Rule::Xor(v) => {
+                let p = self.inputs.at(v);
+                let part = self.write(cofactor(h, v, false));
+                self.write_xor(p, part)
+            }
+            Rule::Shannon(v) => {
+                let p = self.inputs.at(v);
+                let high = self.write(cofactor(h, v, true));
+                let low = self.write(cofactor(h, v, false));
+                self.write_shannon(p, high, low)
+            }
+        }
     }
 }

@@ -1,8 +1,8 @@
 -- What is known of a numeral of which some digits are read. Assumes nothing.
-use Rattle.std.proofs.Common.{◌≡◌, ℕ, suc, ◌+◌, ◌-◌, ◌*◌, ◌^◌, ◌<◌, ◌≤◌, true, false, cond, eqb, ltb, List, [], ◌∷◌, length, get_or, take, drop, is_some, Some, Ok, Err, Option, unwrap_or, sym, refl, ap, ◌∙◌, pow-suc, arith, length-drop, drop_of_length-le, take_all, drop-cons, le-ltb}
+use Rattle.std.proofs.Common.{◌≡◌, ℕ, suc, ◌+◌, ◌*◌, ◌^◌, ◌<◌, ◌≤◌, true, false, cond, eqb, ltb, List, [], ◌∷◌, length, get_or, drop, is_some, Some, Ok, Err, Option, unwrap_or, sym, refl, ap, ◌∙◌, pow-suc, arith, drop_of_length-le, drop-cons, le-ltb}
 use native.Mathlib.Nat.{pow-le-pow_right}
 use Rattle.quote.specs.declared.parse.ParseFault.TheVariants.{NotHex}
-use Rattle.quote.specs.Hex.{digit_of, all_digits, worth, number_of, prefixed, table_of}
+use Rattle.quote.specs.Hex.{digit_of, all_digits, worth, number_of}
 
 -- the first i of the digits are digits, and worth v
 pub record Sofar (bs : List ℕ) (i v : ℕ) : Type 0 where
@@ -42,18 +42,8 @@ module _ (bs : List ℕ) (some : false ≡ eqb (length bs) 0) (few : length bs �
       let short : ltb 4 (length bs) ≡ false = le-ltb 4 (length bs) few in
       rw (sym some, short) refl
 
-  pub not_hex : all_digits bs ≡ false → Err NotHex ≡ number_of bs
-  not_hex bad = sym (by_digits ∙ ap (λ b. cond b (Ok (worth 0 bs)) (Err NotHex)) bad)
-
   pub whole : (i v : ℕ) → length bs ≤ i → Sofar bs i v → Ok v ≡ number_of bs
   whole i v done s =
       let none : drop i bs ≡ [] = drop_of_length-le bs done in
       let all : all_digits bs ≡ true = s.digits ∙ ap all_digits none in
       sym (by_digits ∙ ap (λ b. cond b (Ok (worth 0 bs)) (Err NotHex)) all ∙ ap Ok (s.value ∙ ap (worth v) none))
-
--- ---- the text behind the prefix
-
-pub behind : (bs : List ℕ) → true ≡ prefixed bs → number_of (take (length bs - 2) (drop 2 bs)) ≡ table_of bs
-behind bs is =
-    let end : take (length bs - 2) (drop 2 bs) ≡ drop 2 bs = take_all (length bs - 2) (drop 2 bs) (omega (arith, length-drop 2 bs)) in
-    ap number_of (end ∙ ap (λ b. cond b (drop 2 bs) bs) is)

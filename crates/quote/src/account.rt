@@ -1,12 +1,10 @@
 // The account of a table: its class, the transform, and the plan of each kind of network.
 use crate::kinds::{KINDS, Kind};
 use crate::names::{Connection, Gate, Signal};
-use classes::search::classify;
-use plans::writer::plan_table;
+use classifier::classify;
+use plans::plan_table;
 use std::io;
 use tables::{Table, Variable};
-
-const VARIABLES: [Variable; 4] = [Variable::V0, Variable::V1, Variable::V2, Variable::V3];
 
 // The class, and how the table reads as its representative over x0 to x3.
 fn print_class(rt: &impl Print, f: Table) -> io::Result<()> {
@@ -18,7 +16,7 @@ fn print_class(rt: &impl Print, f: Table) -> io::Result<()> {
         "as it is"
     };
     println!(rt; "  class {representative} ({representative:#06X}), output {output}")?;
-    for signal in VARIABLES {
+    for signal in Variable::ALL {
         let connection = Connection { transform, signal };
         println!(rt; "    {connection}")?;
     }

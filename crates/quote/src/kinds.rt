@@ -22,10 +22,15 @@ impl Kind {
     pub fn owned(self) -> Ownership
         ensures { result ≡ owns_of self }
     {
-        Ownership {
-            xor: matches!(self, Kind::AndXor),
-            majority: matches!(self, Kind::Majority),
-            every: matches!(self, Kind::Table),
+        match self {
+            Kind::And => Ownership::AND,
+            Kind::AndXor => Ownership::AND_XOR,
+            Kind::Majority => Ownership::MAJORITY,
+            // Not `Ownership::TABLE`, which also says yes to the first two: the account says what is owned and no more.
+            Kind::Table => Ownership {
+                every: true,
+                ..Ownership::AND
+            },
         }
     }
 }

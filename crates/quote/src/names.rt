@@ -2,10 +2,10 @@
 ghost use Rattle.std.specs.Prelude.{◌≡◌};
 ghost use Rattle.quote.specs.Names.{signal_name, operation_of};
 
-use classes::Transform;
 use plans::{Line, Literal, Source};
 use std::fmt;
-use tables::{Table, Variable};
+use tables::{PerVariable, Table, Variable};
+use transforms::Transform;
 
 // The name of a signal of the table.
 fn signal_name(v: Variable) -> char
@@ -85,23 +85,12 @@ impl fmt::Display for Gate {
     fn fmt<W: fmt::Write>(&self, f: &mut fmt::Formatter<W>) -> fmt::Result {
         let number = self.number;
         let operation = operation_of(self.line.table);
-        let (a, b) = (Signal(self.line.a), Signal(self.line.b));
+        let PerVariable { a, b, c, d } = self.line.literals.map(Signal);
         write!(f, "g{number} = {operation}({a}, {b}")?;
         if let Operation::Other(_) = operation {
-            let (c, d) = (Signal(self.line.c), Signal(self.line.d));
             write!(f, ", {c}, {d}")?;
         }
         f.write_str(")")
-    }
-}
-
-// The number of a variable of the representative.
-fn variable_number(v: Variable) -> u8 {
-    match v {
-        Variable::V0 => 0,
-        Variable::V1 => 1,
-        Variable::V2 => 2,
-        Variable::V3 => 3,
     }
 }
 
@@ -116,7 +105,7 @@ impl fmt::Display for Connection {
     fn fmt<W: fmt::Write>(&self, f: &mut fmt::Formatter<W>) -> fmt::Result {
         let name = signal_name(self.signal);
         let mark = mark(self.transform.inverts(self.signal));
-        let number = variable_number(self.transform.order().place(self.signal));
+        let number = u8::from(self.transform.order().at(self.signal));
         write!(f, "{name} = {mark}x{number}")
     }
 }

@@ -2,11 +2,12 @@
 ghost use Rattle.std.specs.Prelude.{◌≡◌, ◌<◌, ◌≤◌, true, length, IfSome};
 ghost use Rattle.quote.specs.Hex.{digit_of, number_of, prefixed, table_of};
 
+use std::error::Error;
 use std::fmt;
 use tables::Table;
 
 /// Why a text is no table.
-#[derive(Clone, Copy)]
+#[derive(Clone, Copy, Debug)]
 pub enum ParseFault {
     /// It has no digit.
     NoDigits,
@@ -26,20 +27,18 @@ impl fmt::Display for ParseFault {
     }
 }
 
+impl Error for ParseFault {}
+
 // What a hexadecimal digit is worth, in either case.
-fn digit_value(b: u8) -> Option<u16>
+fn digit_value(b: u8) -> Option<u32>
     ensures value { result ≡ digit_of b }
     ensures low { IfSome result (λ d. d < 16) }
 {
-    match b {
-        b'0'..=b'9' => Some(u16::from(b - b'0')),
-        b'A'..=b'F' => Some(u16::from(b - b'A') + 10),
-        b'a'..=b'f' => Some(u16::from(b - b'a') + 10),
-        _ => None,
-    }
+    char::from(b).to_digit(16)
 }
 
 // The number that one to four digits write.
+#[tactic(auto, using(crate::proofs::Digits::fits))]
 fn parse_digits(digits: &[u8]) -> Result<u16, ParseFault>
     ensures { result ≡ number_of digits.now }
 {
@@ -49,31 +48,22 @@ fn parse_digits(digits: &[u8]) -> Result<u16, ParseFault>
     if digits.len() > 4 {
         return Err(ParseFault::TooLong);
     }
+    // No `try_fold`: in a closure the sum has no bound, so it has to wrap, and the search left the contract open.
+    // No `from_str_radix`: it takes a leading +, which is no digit.
     let mut value = 0;
     for b in digits {
-        let Some(digit) = digit_value(*b) else {
-            return Err(ParseFault::NotHex);
-        };
-        value = 16 * value + digit;
+        let digit = digit_value(*b).ok_or(ParseFault::NotHex)?;
+        value = 16 * value + digit as u16;
     }
     Ok(value)
-}
-
-// Whether a text begins with 0x or 0X.
-fn has_prefix(text: &[u8]) -> bool
-    ensures value { result ≡ prefixed text.now }
-    ensures long { result ≡ true → 2 ≤ length text.now }
-{
-    text.len() >= 2 && text[0] == b'0' && (text[1] == b'x' || text[1] == b'X')
 }
 
 /// The table that a text writes.
 pub fn parse_table(text: &[u8]) -> Result<Table, ParseFault>
     ensures { result ≡ table_of text.now }
 {
-    if has_prefix(text) {
-        parse_digits(&text[2..])
-    } else {
-        parse_digits(text)
+    match text {
+        [b'0', b'x' | b'X', digits @ ..] => parse_digits(digits),
+        _ => parse_digits(text),
     }
 }

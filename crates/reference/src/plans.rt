@@ -1,5 +1,10 @@
 //! Plans by the rules, line by line, and what a plan computes.
-use crate::tables::{Atlas, Class, Owned, VARIABLES, bit};
+ghost use Rattle.std.specs.Prelude.{◌≡◌, ◌↔◌, true, IfOk, IsNone};
+ghost use Rattle.reference.specs.Classes.{class_in};
+ghost use Rattle.reference.specs.Plans.{invert_if};
+
+use crate::classes::{Atlas, Owned, Transform};
+use crate::tables::{Variable, fixed, is_used, setting_of, table_of, value_at};
 use std::alloc::{AllocError, Global};
 
 const AND: u16 = 0x8888;
@@ -8,14 +13,11 @@ const OR: u16 = 0xEEEE;
 
 const XOR: u16 = 0x6666;
 
-/// No plan is longer.
-pub const MOST_LINES: usize = 21;
-
 /// Where a literal comes from.
 #[derive(Clone, Copy, PartialEq, Eq)]
 pub enum Source {
     False,
-    Signal(u16),
+    Signal(Variable),
     Line(usize),
 }
 
@@ -30,61 +32,69 @@ pub struct Literal {
 #[derive(Clone, Copy, PartialEq, Eq)]
 pub struct Line {
     pub table: u16,
-    pub a: Literal,
-    pub b: Literal,
-    pub c: Literal,
-    pub d: Literal,
+    pub literals: [Literal; 4],
 }
 
 /// Place calls, and the literal that then has the table's value.
-#[derive(Drop)]
+#[derive(PartialEq, Drop)]
 pub struct Plan {
     pub lines: Vec<Line>,
     pub result: Literal,
 }
 
-/// The literal of constant false.
-pub const FALSE: Literal = Literal {
-    source: Source::False,
-    inverted: false,
-};
-
 impl Literal {
-    /// The literal's inversion.
-    pub fn not(self) -> Literal {
+    /// Constant false.
+    pub const FALSE: Literal = Literal {
+        source: Source::False,
+        inverted: false,
+    };
+
+    /// The literal, inverted once more where `inverse` says so.
+    pub fn invert_if(self, inverse: bool) -> Literal
+        ensures { result ≡ invert_if inverse self }
+    {
         Literal {
-            source: self.source,
-            inverted: !self.inverted,
+            inverted: self.inverted != inverse,
+            ..self
         }
     }
+
+    /// The literal's inversion.
+    pub fn not(self) -> Literal
+        ensures { result ≡ invert_if true self }
+    {
+        self.invert_if(true)
+    }
+}
+
+impl Line {
+    // A line over two literals.
+    fn of_two(table: u16, a: Literal, b: Literal) -> Line {
+        Line {
+            table,
+            literals: [a, b, Literal::FALSE, Literal::FALSE],
+        }
+    }
+}
+
+// What a variable of the table stands for.
+#[derive(Clone, Copy)]
+struct Input {
+    variable: Variable,
+    literal: Literal,
 }
 
 // What a table is written as: something that is there, one line, or its parts joined by lines.
 #[derive(Clone, Copy)]
 enum Choice {
     There(Literal),
-    OneLine,
+    OneLine(Line),
     Join { table: u16, by: Literal, part: u16 },
     Exclusive { by: Literal, part: u16 },
     Halves { by: Literal, high: u16, low: u16 },
 }
 
-// The number of places from a bit to the one with the variable turned.
-fn span(v: u16) -> u16 {
-    1 << (v & 3)
-}
-
-// The table with a variable fixed, one bit at a time.
-fn fixed(h: u16, v: u16, value: u16) -> u16 {
-    let mut g = 0;
-    for x in 0..16u16 {
-        let z = (x & !span(v)) | ((value & 1) << (v & 3));
-        g |= bit(h, z) << x;
-    }
-    g
-}
-
-// The table h over one variable that the rules look at.
+// A table over one variable, as the rules look at it.
 #[derive(Clone, Copy)]
 struct View {
     by: Literal,
@@ -92,109 +102,15 @@ struct View {
     high: u16,
 }
 
-// Adds a line; the answer is its literal.
-fn push(lines: &mut Vec<Line>, line: Line) -> Result<Literal, AllocError> {
-    let number = lines.len();
-    lines.push(line)?;
-    Ok(Literal {
-        source: Source::Line(number),
-        inverted: false,
-    })
-}
-
-fn two_of(table: u16, a: Literal, b: Literal) -> Line {
-    Line {
-        table,
-        a,
-        b,
-        c: FALSE,
-        d: FALSE,
-    }
-}
-
-// Two lines and their OR.
-fn push_either(lines: &mut Vec<Line>, first: Line, second: Line) -> Result<Literal, AllocError> {
-    let a = push(lines, first)?;
-    let b = push(lines, second)?;
-    push(lines, two_of(OR, a, b))
-}
-
-// The exclusive-or of two literals: one line where it is owned, else three.
-fn push_exclusive(
-    own: Owned,
-    lines: &mut Vec<Line>,
-    a: Literal,
-    b: Literal,
-) -> Result<Literal, AllocError> {
-    if own.xor {
-        push(lines, two_of(XOR, a, b))
-    } else {
-        push_either(lines, two_of(AND, a, b.not()), two_of(AND, a.not(), b))
-    }
-}
-
-// The writer: the classes, what is owned, and what the four variables stand for.
-#[derive(Clone, Copy)]
-struct Writer<'a> {
-    atlas: &'a Atlas,
-    own: Owned,
-    inputs: [Literal; 4],
-}
-
-impl Writer<'_> {
-    fn view(&self, h: u16, v: u16) -> View {
-        View {
-            by: self.inputs[(v & 3) as usize],
-            low: fixed(h, v, 0),
-            high: fixed(h, v, 1),
-        }
-    }
-
-    // The rule for what needs no line.
-    fn there(&self, h: u16) -> Option<Choice> {
-        match h {
-            0 => return Some(Choice::There(FALSE)),
-            0xFFFF => return Some(Choice::There(FALSE.not())),
-            _ => {}
-        }
-        for k in 0..4 {
-            if h == VARIABLES[k] {
-                return Some(Choice::There(self.inputs[k]));
-            }
-            if h == !VARIABLES[k] {
-                return Some(Choice::There(self.inputs[k].not()));
-            }
-        }
-        None
-    }
-
-    // What a variable stands for in a line with the table itself: false where the table does not depend on it.
-    fn fed(&self, h: u16, v: u16) -> Literal {
-        let view = self.view(h, v);
-        if view.is_used() { view.by } else { FALSE }
-    }
-
-    fn whole(&self, h: u16) -> Line {
-        Line {
-            table: h,
-            a: self.fed(h, 0),
-            b: self.fed(h, 1),
-            c: self.fed(h, 2),
-            d: self.fed(h, 3),
-        }
-    }
-
-    // The rules for one line.
-    fn one_line(&self, h: u16) -> Option<Choice> {
-        if self.own.every || (self.own.majority && self.atlas.number(h) == 831) {
-            Some(Choice::OneLine)
-        } else {
-            None
-        }
-    }
-}
-
 impl View {
+    fn new(h: u16, input: Input) -> View {
+        View {
+            by: input.literal,
+            low: fixed(h, input.variable, false),
+            high: fixed(h, input.variable, true),
+        }
+    }
+
     fn is_used(self) -> bool {
         self.low != self.high
     }
@@ -211,61 +127,126 @@ impl View {
         Some(Choice::Join { table, by, part })
     }
 
+    // The exclusive-or with the variable, where the halves are inversions of one another.
     fn exclusive(self) -> Option<Choice> {
-        if self.low == !self.high {
-            Some(Choice::Exclusive {
-                by: self.by,
-                part: self.low,
-            })
-        } else {
-            None
-        }
+        let View { by, low, high } = self;
+        (low == !high).then_some(Choice::Exclusive { by, part: low })
     }
 
-    fn halves(self) -> Choice {
-        Choice::Halves {
-            by: self.by,
-            high: self.high,
-            low: self.low,
-        }
+    fn halves(self) -> Option<Choice> {
+        let View { by, low, high } = self;
+        Some(Choice::Halves { by, high, low })
     }
 }
 
+// A rule, at the lowest variable of the support for which it holds.
+fn first<F: Fn(View) -> Option<Choice>>(views: [View; 4], rule: F) -> Option<Choice>
+    requires { F.IsAlwaysCallable rule }
+{
+    let mut used = views.into_iter().filter(|view| view.is_used());
+    used.find_map(rule)
+}
+
+// Adds a line; the answer is its literal.
+fn push(lines: &mut Vec<Line>, line: Line) -> Result<Literal, AllocError> {
+    let source = Source::Line(lines.len());
+    lines.push(line)?;
+    Ok(Literal {
+        source,
+        inverted: false,
+    })
+}
+
+// Two lines and their OR.
+fn push_either(lines: &mut Vec<Line>, first: Line, second: Line) -> Result<Literal, AllocError> {
+    let a = push(lines, first)?;
+    let b = push(lines, second)?;
+    push(lines, Line::of_two(OR, a, b))
+}
+
+// The exclusive-or of two literals: one line where it is owned, else three.
+fn push_exclusive(
+    own: Owned,
+    lines: &mut Vec<Line>,
+    a: Literal,
+    b: Literal,
+) -> Result<Literal, AllocError> {
+    if own.xor {
+        push(lines, Line::of_two(XOR, a, b))
+    } else {
+        let first = Line::of_two(AND, a, b.not());
+        let second = Line::of_two(AND, a.not(), b);
+        push_either(lines, first, second)
+    }
+}
+
+// The writer: the classes, what is owned, and what the variables stand for, in their order.
+#[derive(Clone, Copy)]
+struct Writer<'a> {
+    atlas: &'a Atlas,
+    own: Owned,
+    inputs: [Input; 4],
+}
+
 impl Writer<'_> {
-    // The rules that take the table apart: each at the lowest variable of the support for which it holds.
-    fn apart(&self, h: u16) -> Option<Choice> {
-        let mut exclusive = None;
-        let mut halves = None;
-        for v in 0..4u16 {
-            let view = self.view(h, v);
-            if view.is_used() {
-                if let Some(choice) = view.join() {
-                    return Some(choice);
-                }
-                exclusive = exclusive.or(view.exclusive());
-                halves = halves.or(Some(view.halves()));
-            }
+    // The literal that has the table: constant false, or a variable.
+    fn literal(&self, h: u16) -> Option<Literal> {
+        if h == 0 {
+            return Some(Literal::FALSE);
         }
-        exclusive.or(halves)
+        let mut inputs = self.inputs.iter();
+        let input = inputs.find(|input| input.variable.table() == h)?;
+        Some(input.literal)
+    }
+
+    // The rule for what needs no line: a literal, or the inversion of one.
+    fn there(&self, h: u16) -> Option<Choice> {
+        let literal = self
+            .literal(h)
+            .or_else(|| self.literal(!h).map(Literal::not));
+        literal.map(Choice::There)
+    }
+
+    // The rules for one line: the table itself, with constant false for what it does not depend on.
+    fn one_line(&self, h: u16) -> Option<Choice> {
+        let literals = self.inputs.map(|input| {
+            if is_used(h, input.variable) {
+                input.literal
+            } else {
+                Literal::FALSE
+            }
+        });
+        let owned = self.own.every || (self.own.majority && self.atlas.number(h) == Some(831));
+        owned.then_some(Choice::OneLine(Line { table: h, literals }))
+    }
+
+    // The rules that take the table apart.
+    fn apart(&self, h: u16) -> Option<Choice> {
+        let views = self.inputs.map(|input| View::new(h, input));
+        first(views, View::join)
+            .or_else(|| first(views, View::exclusive))
+            .or_else(|| first(views, View::halves))
     }
 
     // The first rule that fits.
     fn choose(&self, h: u16) -> Choice {
-        let choice = self.there(h).or(self.one_line(h)).or(self.apart(h));
-        choice.unwrap_or(Choice::There(FALSE))
+        self.there(h)
+            .or_else(|| self.one_line(h))
+            .or_else(|| self.apart(h))
+            .unwrap_or(Choice::There(Literal::FALSE))
     }
 
     // Writes a table behind the lines that are there. `depth` is more than the variables of the table.
     fn write(&self, h: u16, depth: u8, lines: &mut Vec<Line>) -> Result<Literal, AllocError> {
         if depth == 0 {
-            return Ok(FALSE);
+            return Ok(Literal::FALSE);
         }
         match self.choose(h) {
             Choice::There(literal) => Ok(literal),
-            Choice::OneLine => push(lines, self.whole(h)),
+            Choice::OneLine(line) => push(lines, line),
             Choice::Join { table, by, part } => {
                 let part = self.write(part, depth - 1, lines)?;
-                push(lines, two_of(table, by, part))
+                push(lines, Line::of_two(table, by, part))
             }
             Choice::Exclusive { by, part } => {
                 let part = self.write(part, depth - 1, lines)?;
@@ -274,81 +255,83 @@ impl Writer<'_> {
             Choice::Halves { by, high, low } => {
                 let high = self.write(high, depth - 1, lines)?;
                 let low = self.write(low, depth - 1, lines)?;
-                push_either(lines, two_of(AND, by, high), two_of(AND, by.not(), low))
+                let first = Line::of_two(AND, by, high);
+                let second = Line::of_two(AND, by.not(), low);
+                push_either(lines, first, second)
             }
         }
     }
 }
 
-// What the variables of the representative stand for: the variable at place k of the order is signal k, inverted by bit k of the
-// mask.
-fn inputs_of(class: Class) -> [Literal; 4] {
-    let mut inputs = [FALSE; 4];
-    let order = [class.order.a, class.order.b, class.order.c, class.order.d];
-    for k in 0..4u16 {
-        inputs[(order[k as usize] & 3) as usize] = Literal {
-            source: Source::Signal(k),
-            inverted: bit(class.mask, k) == 1,
-        };
-    }
-    inputs
+// What a variable of the representative stands for: the signal at whose place the order has it, inverted where the mask is true.
+fn input_of(transform: Transform, variable: Variable) -> Input {
+    let mut places = Variable::ALL.into_iter().zip(transform.order);
+    let place = places.find(|(_, v)| *v == variable);
+    let literal = place.map_or(
+        Literal::FALSE,
+        |(signal, _)| Literal {
+            source: Source::Signal(signal),
+            inverted: signal.is_set(transform.mask),
+        },
+    );
+    Input { variable, literal }
 }
 
-/// The plan of the table that has this class, by the first rule that fits it and then its parts.
+/// The plan of a table, by the first rule that fits its class and then the parts.
 pub fn write_plan(
     heap: Global,
     atlas: &Atlas,
     own: Owned,
-    class: Class,
-) -> Result<Plan, AllocError> {
+    f: u16,
+) -> Result<Option<Plan>, AllocError>
+    ensures { IfOk result (λ plan. IsNone plan ↔ IsNone (class_in atlas.now f)) }
+{
+    let Some(class) = atlas.class(f) else {
+        return Ok(None);
+    };
+    let transform = class.transform;
     let writer = Writer {
         atlas,
         own,
-        inputs: inputs_of(class),
+        inputs: Variable::ALL.map(|v| input_of(transform, v)),
     };
     let mut lines = Vec::new(heap);
     let result = writer.write(class.representative, 5, &mut lines)?;
-    let result = if class.output == 1 {
-        result.not()
-    } else {
-        result
-    };
-    Ok(Plan { lines, result })
+    let result = result.invert_if(transform.output);
+    Ok(Some(Plan { lines, result }))
 }
 
 // The table of a literal over the four signals, after the tables of some lines.
 fn literal_table(literal: Literal, answers: &[u16]) -> Option<u16> {
     let table = match literal.source {
         Source::False => 0,
-        Source::Signal(k) => VARIABLES[(k & 3) as usize],
-        Source::Line(n) => answers.get(n).copied()?,
+        Source::Signal(v) => v.table(),
+        Source::Line(n) => *answers.get(n)?,
     };
     Some(if literal.inverted { !table } else { table })
 }
 
 // The table of a line over the four signals, one setting at a time.
 fn line_table(line: Line, answers: &[u16]) -> Option<u16> {
-    let a = literal_table(line.a, answers)?;
-    let b = literal_table(line.b, answers)?;
-    let c = literal_table(line.c, answers)?;
-    let d = literal_table(line.d, answers)?;
-    let mut g = 0;
-    for x in 0..16u16 {
-        let z = bit(a, x) | bit(b, x) << 1 | bit(c, x) << 2 | bit(d, x) << 3;
-        g |= bit(line.table, z) << x;
-    }
-    Some(g)
+    let tables = line.literals.map(|literal| literal_table(literal, answers));
+    let [Some(a), Some(b), Some(c), Some(d)] = tables else {
+        return None;
+    };
+    Some(table_of(|x| {
+        let values = [a, b, c, d].map(|f| value_at(f, x));
+        value_at(line.table, setting_of(values))
+    }))
 }
 
 impl Plan {
     /// What it computes over the four signals; nothing where a line reads a line that does not stand before it.
     pub fn table(&self, heap: Global) -> Result<Option<u16>, AllocError> {
         let mut answers = Vec::new(heap);
-        for line in self.lines.iter() {
-            match line_table(*line, &answers) {
-                Some(table) => answers.push(table)?,
-                None => return Ok(None),
-            }
+        for line in &self.lines {
+            let Some(table) = line_table(*line, &answers) else {
+                return Ok(None);
+            };
+            answers.push(table)?;
         }
         Ok(literal_table(self.result, &answers))
     }

@@ -1,1 +1,1 @@
-pub mod Fitting
+pub mod Firsts

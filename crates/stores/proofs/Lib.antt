@@ -1,3 +1,2 @@
-pub mod Words
-pub mod Rows
+pub mod Chunks
 pub mod Stores

@@ -4,5 +4,5 @@
 mod blocks;
 pub mod store;
 
+pub use lists::Full;
 pub use store::Store;
-pub use store::calls::Full;

@@ -3,132 +3,79 @@
 // program writes is compared: give the built program an argument by hand.
 #![tactic(auto)]
 
-mod plain;
-
 use classes::Ownership;
-use classes::search::classify;
-use plain::least_image;
-use plans::writer::plan_table;
+use classifier::classify;
+use plans::plan_table;
+use reference::classes::{Class, list_transforms};
 use std::rt::{Clock, Env};
 use std::time::Instant;
 use std::{env, io};
 use tables::Table;
 
-// A kind of network, by name.
-#[derive(Clone, Copy)]
-struct Kind {
-    name: &'static str,
-    own: Ownership,
-}
-
-const KINDS: [Kind; 4] = [
-    Kind {
-        name: "plans, AND",
-        own: Ownership {
-            xor: false,
-            majority: false,
-            every: false,
-        },
-    },
-    Kind {
-        name: "plans, AND-XOR",
-        own: Ownership {
-            xor: true,
-            majority: false,
-            every: false,
-        },
-    },
-    Kind {
-        name: "plans, majority",
-        own: Ownership {
-            xor: false,
-            majority: true,
-            every: false,
-        },
-    },
-    Kind {
-        name: "plans, table",
-        own: Ownership {
-            xor: false,
-            majority: false,
-            every: true,
-        },
-    },
+// The kinds of network, by name.
+const KINDS: [(&str, Ownership); 4] = [
+    ("plans, AND", Ownership::AND),
+    ("plans, AND-XOR", Ownership::AND_XOR),
+    ("plans, majority", Ownership::MAJORITY),
+    ("plans, table", Ownership::TABLE),
 ];
 
-// Prints a speed. The sum is of what was calculated, so that it was not calculated for nothing.
-fn print_speed(
-    rt: &(impl Print + Clock),
-    name: &str,
-    tables: u32,
-    start: Instant,
-    sum: u64,
-) -> io::Result<()> {
-    let seconds = start.elapsed(rt)?.as_secs_f64();
-    let speed = f64::from(tables) / seconds;
-    println!(rt; "{name}: {speed:.0} tables a second ({tables} tables, sum {sum})")
+// How often each table is measured, and what is asked for the time.
+#[derive(Drop)]
+struct Bench<'a, R> {
+    rt: &'a R,
+    rounds: u16,
 }
 
-// The class of every table.
-fn time_classes(rt: &(impl Print + Clock), rounds: u16) -> io::Result<()> {
-    let start = Instant::now(rt)?;
-    let mut sum: u64 = 0;
-    for _ in 0..rounds {
-        for f in 0..=Table::MAX {
-            sum = sum.wrapping_add(u64::from(classify(f).representative));
+impl<R: Print + Clock> Bench<'_, R> {
+    // Prints how many tables a second a calculation takes, and the sum of its answers, so that they are not calculated for nothing.
+    fn measure<F: Fn(Table) -> u64>(
+        &self,
+        name: &str,
+        tables: &[Table],
+        calculate: F,
+    ) -> io::Result<()>
+        requires { F.IsAlwaysCallable calculate }
+    {
+        let start = Instant::now(self.rt)?;
+        let mut sum: u64 = 0;
+        for _ in 0..self.rounds {
+            for f in tables {
+                sum = sum.wrapping_add(calculate(*f));
+            }
         }
+        let seconds = start.elapsed(self.rt)?.as_secs_f64();
+        let count = (tables.len() as u64).wrapping_mul(u64::from(self.rounds));
+        let speed = std::num::nearest_u64_to_f64(count) / seconds;
+        println!(self.rt; "{name}: {speed:.0} tables a second ({count} tables, sum {sum})")
     }
-    print_speed(rt, "classes", u32::from(rounds) * 65_536, start, sum)
-}
-
-// The plan of every table for a kind.
-fn time_plans(rt: &(impl Print + Clock), rounds: u16, kind: Kind) -> io::Result<()> {
-    let start = Instant::now(rt)?;
-    let mut sum: u64 = 0;
-    for _ in 0..rounds {
-        for f in 0..=Table::MAX {
-            sum = sum.wrapping_add(plan_table(kind.own, f).len() as u64);
-        }
-    }
-    print_speed(rt, kind.name, u32::from(rounds) * 65_536, start, sum)
-}
-
-// The least image of every 16th table, by the plain definition.
-fn time_plain(rt: &(impl Print + Clock), rounds: u16) -> io::Result<()> {
-    let start = Instant::now(rt)?;
-    let mut sum: u64 = 0;
-    for _ in 0..rounds {
-        for i in 0..4_096u16 {
-            sum = sum.wrapping_add(u64::from(least_image(16 * i + i % 16)));
-        }
-    }
-    print_speed(
-        rt,
-        "plain definition",
-        u32::from(rounds) * 4_096,
-        start,
-        sum,
-    )
 }
 
 // The number of rounds that is asked for.
+// It stands in network_bench too: a crate of six lines for two programs is no plainer, and no clause could say what the arguments are.
 fn asked_rounds(rt: &(impl Env + Alloc)) -> io::Result<Option<u16>> {
-    let mut args = env::args(rt)?;
-    let _ = args.next();
-    Ok(match args.next() {
-        Some(word) => word.as_str().parse::<u16>().ok(),
-        None => None,
-    })
+    let word = env::args(rt)?.nth(1);
+    Ok(word.and_then(|word| word.as_str().parse::<u16>().ok()))
 }
 
 fn main(rt: HostRuntime) -> io::Result<()> {
     let Some(rounds) = asked_rounds(&rt)? else {
         return Ok(());
     };
-    time_plain(&rt, rounds)?;
-    time_classes(&rt, rounds)?;
-    for kind in KINDS {
-        time_plans(&rt, rounds, kind)?;
+    let bench = Bench { rt: &rt, rounds };
+    let transforms = list_transforms(rt.alloc())?;
+    let all: Vec<Table> = (0..=Table::MAX).collect(rt.alloc())?;
+    let sample: Vec<Table> = all
+        .iter()
+        .copied()
+        .filter(|f| f % 16 == f / 16 % 16)
+        .collect(rt.alloc())?;
+    bench.measure("plain definition", &sample, |f| {
+        Class::among(&transforms, f).map_or(0, |class| u64::from(class.representative))
+    })?;
+    bench.measure("classes", &all, |f| u64::from(classify(f).representative))?;
+    for (name, own) in KINDS {
+        bench.measure(name, &all, |f| plan_table(own, f).len() as u64)?;
     }
     Ok(())
 }

@@ -1,14 +1,15 @@
 // Runs every table through the class search and, for each ownership, through the plan writer. What they answer is compared with
-// slow calculations of this program's own, one bit at a time, and totals are printed.
+// slow calculations, one bit at a time, and totals are printed.
 #![tactic(auto)]
 
-mod by_hand;
 mod class_check;
 mod plan_check;
 
 use class_check::{ClassTotals, run_classes};
 use classes::Ownership;
 use plan_check::{PlanTotals, run_plans};
+use reference::classes::Owned;
+use seen::asked;
 use std::io;
 
 fn print_classes(rt: &impl Print, totals: ClassTotals) -> io::Result<()> {
@@ -27,18 +28,10 @@ fn print_plans(rt: &impl Print, own: Ownership, totals: PlanTotals) -> io::Resul
 }
 
 fn main(rt: HostRuntime) -> io::Result<()> {
-    print_classes(&rt, run_classes())?;
-    for every in [false, true] {
-        for majority in [false, true] {
-            for xor in [false, true] {
-                let own = Ownership {
-                    xor,
-                    majority,
-                    every,
-                };
-                print_plans(&rt, own, run_plans(own))?;
-            }
-        }
+    print_classes(&rt, run_classes(rt.alloc())?)?;
+    for owned in Owned::all() {
+        let own = asked(owned);
+        print_plans(&rt, own, run_plans(rt.alloc(), own)?)?;
     }
     Ok(())
 }

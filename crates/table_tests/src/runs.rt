@@ -1,16 +1,22 @@
 //! All tables through the library and the reference.
 use crate::compare::Count;
-use crate::seen::{seen_class, seen_plan};
-use classes::Ownership;
-use classes::owned::{is_conjunction, is_exclusive_or, is_majority, is_owned};
-use classes::search::classify;
-use plans::writer::plan_table;
+use classes::owned::{NamedClass, is_owned};
+use classifier::classify;
+use plans::plan_table;
+use reference::classes::{Atlas, Owned};
 use reference::plans::write_plan;
-use reference::tables::{Atlas, Owned};
+use seen::{asked, seen_class, seen_plan};
 use std::alloc::{AllocError, Global};
 
+// The named classes, and their numbers.
+const NAMED: [(NamedClass, u16); 3] = [
+    (NamedClass::Conjunction, 15),
+    (NamedClass::ExclusiveOr, 4080),
+    (NamedClass::Majority, 831),
+];
+
 /// What came of the class of every table.
-#[derive(Clone, Copy)]
+#[derive(Clone, Copy, Default)]
 pub struct ClassRun {
     pub classes: Count,
     pub distinct: u32,
@@ -18,7 +24,7 @@ pub struct ClassRun {
 }
 
 /// What came of the plan of every table for one ownership.
-#[derive(Clone, Copy)]
+#[derive(Clone, Copy, Default)]
 pub struct PlanRun {
     pub plans: Count,
     pub values: Count,
@@ -27,64 +33,47 @@ pub struct PlanRun {
     pub longest: usize,
 }
 
-/// The class of every table, and which of the three named classes it is.
-pub fn run_classes(atlas: &Atlas) -> ClassRun {
-    let mut run = ClassRun {
-        classes: Count::NONE,
-        distinct: 0,
-        named: Count::NONE,
-    };
-    for f in 0..=u16::MAX {
+impl ClassRun {
+    // The class of one table, and which of the three named classes it is.
+    fn add(&mut self, atlas: &Atlas, f: u16) {
         let class = seen_class(classify(f));
-        run.classes.add_class(class, atlas.class(f));
-        run.distinct = run
-            .distinct
-            .saturating_add(u32::from(class.representative == f));
+        self.classes.compare(&Some(class), &atlas.class(f));
+        let is_least = class.representative == f;
+        self.distinct = self.distinct.saturating_add(u32::from(is_least));
         let number = atlas.number(f);
-        run.named.add_answer(is_conjunction(f), number == 15);
-        run.named.add_answer(is_exclusive_or(f), number == 4080);
-        run.named.add_answer(is_majority(f), number == 831);
+        for (class, due) in NAMED {
+            self.named.compare(&class.has(f), &(number == Some(due)));
+        }
+    }
+}
+
+/// The classes of all tables.
+pub fn run_classes(atlas: &Atlas) -> ClassRun {
+    let mut run = ClassRun::default();
+    for f in 0..=u16::MAX {
+        run.add(atlas, f);
     }
     run
 }
 
 impl PlanRun {
-    // The plan of one table.
+    // The plan of one table, and whether the table is owned.
     fn add(&mut self, heap: Global, atlas: &Atlas, own: Owned, f: u16) -> Result<(), AllocError> {
-        let asked = asked(own);
-        let Some(class) = atlas.class(f) else {
-            return Ok(());
-        };
-        let seen = seen_plan(heap, &plan_table(asked, f))?;
-        self.plans
-            .add_plan(&seen, &write_plan(heap, atlas, own, class)?);
-        self.values.add_value(heap, &seen, f)?;
-        self.ownership
-            .add_answer(is_owned(asked, f), own.has(class.representative));
+        let owned = is_owned(asked(own), f);
+        self.ownership.compare(&Some(owned), &atlas.owns(own, f));
+        let seen = seen_plan(heap, &plan_table(asked(own), f))?;
         self.lines = self.lines.saturating_add(seen.lines.len());
         self.longest = self.longest.max(seen.lines.len());
+        self.values.compare(&seen.table(heap)?, &Some(f));
+        let due = write_plan(heap, atlas, own, f)?;
+        self.plans.compare(&Some(seen), &due);
         Ok(())
     }
 }
 
-/// An ownership as the library has it.
-pub fn asked(own: Owned) -> Ownership {
-    Ownership {
-        xor: own.xor,
-        majority: own.majority,
-        every: own.every,
-    }
-}
-
-/// The plan of every table for one ownership, and whether the table is owned.
+/// The plans of all tables for one ownership.
 pub fn run_plans(heap: Global, atlas: &Atlas, own: Owned) -> Result<PlanRun, AllocError> {
-    let mut run = PlanRun {
-        plans: Count::NONE,
-        values: Count::NONE,
-        ownership: Count::NONE,
-        lines: 0,
-        longest: 0,
-    };
+    let mut run = PlanRun::default();
     for f in 0..=u16::MAX {
         run.add(heap, atlas, own, f)?;
     }

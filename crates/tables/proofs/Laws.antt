@@ -1,12 +1,14 @@
 -- The laws of tables that proofs use: a table is determined by its values, and every function of four variables has one.
 use Rattle.std.proofs.Common.{◌≡◌, ℕ, ◌+◌, ◌-◌, ◌*◌, ◌/◌, ◌%◌, ◌^◌, ◌<◌, Bool, true, false, cond, not, ◌&&◌, ◌||◌, eqb, List, [], ◌∷◌, map, get_or, sym, refl, ap, ◌∙◌, ap₂, add-zero, mod-eq_of_lt, div-one, arith, lit<}
 use lib.Bits.{bit_and, bit_or, or_lt, and_lt, and_mask}
+use Rattle.std.specs.List.{slice_index}
 use Rattle.std.proofs.lemmas.Bool.{ne_eqb}
+use Rattle.std.proofs.lemmas.Bool.Decides.{nat_tests}
 use Rattle.tables.specs.declared.Variable.{Variable}
 use Rattle.tables.specs.declared.Variable.TheVariants.{V0, V1, V2, V3}
 use Rattle.tables.specs.Bits.{bit, from_bits}
 use Rattle.tables.specs.Settings.{Setting, get, put, index, setting, settings, span_of}
-use Rattle.tables.specs.Tables.{value, table_of, variable, complement, chosen, cofactor, flipped, composed}
+use Rattle.tables.specs.Tables.{value, table_of, variable, complement, chosen, cofactor, flipped, constant, composed}
 use Rattle.tables.proofs.Bitwise.{bit-and, bit-or, bit_shr, bit_shl, bit_not, shifted, bit-from_bits, from_bits_lt, from_bits_bits}
 
 -- a claim about all settings, at each of the sixteen
@@ -72,14 +74,6 @@ is_table_of f g a e = sym (table_of-value f a) ∙ table_of_same (value f) g e
 
 pub index_lt : (x : Setting) → index x < 16
 index_lt = every_setting (λ x. index x < 16) (lit< tt) (lit< tt) (lit< tt) (lit< tt) (lit< tt) (lit< tt) (lit< tt) (lit< tt) (lit< tt) (lit< tt) (lit< tt) (lit< tt) (lit< tt) (lit< tt) (lit< tt) (lit< tt)
-
-pub value-and : (f h : ℕ) (x : Setting) → value (bit_and f h) x ≡ (value f x && value h x)
-unfolding value
-value-and f h x = bit-and f h (index x)
-
-pub value-or : (f h : ℕ) (x : Setting) → value (bit_or f h) x ≡ (value f x || value h x)
-unfolding value
-value-or f h x = bit-or f h (index x)
 
 pub value_not : (f : ℕ) (x : Setting) → f < 65536 → value (65535 - f) x ≡ not (value f x)
 unfolding value
@@ -194,14 +188,24 @@ pub value_false : (x : Setting) → value 0 x ≡ false
 unfolding value bit
 value_false = every_setting (λ x. bit 0 (index x) ≡ false) refl refl refl refl refl refl refl refl refl refl refl refl refl refl refl refl
 
--- a choice between two bits that lie w apart
-step_bit : (f i w : ℕ) (t h l : Bool) → h ≡ bit f (i + w) → l ≡ bit f i → cond t h l ≡ bit f (i + cond t w 0)
-step_bit f i w true h l p q = p
-step_bit f i w false h l p q = q ∙ ap (bit f) (sym (add-zero i))
+-- a choice from two neighbours in a list of tables
+pub value-neighbours : (z r k : ℕ) (parts : List ℕ) (x : Setting) → r ≡ chosen z (slice_index parts (2 * k + 1)) (slice_index parts (2 * k))
+    → value r x ≡ value (slice_index parts (2 * k + cond (value z x) 1 0)) x
+value-neighbours z r k parts x e =
+    ap (λ (t : ℕ). value t x) e ∙ value-chosen z (slice_index parts (2 * k + 1)) (slice_index parts (2 * k)) x ∙ by (value z x)
+  where
+    by : (b : Bool) → cond b (value (slice_index parts (2 * k + 1)) x) (value (slice_index parts (2 * k)) x) ≡ value (slice_index parts (2 * k + cond b 1 0)) x
+    by true = refl
+    by false = ap (λ (j : ℕ). value (slice_index parts j) x) (sym (add-zero (2 * k)))
 
-pub chosen-bit : (f i j w z h l r : ℕ) (x : Setting) → r ≡ chosen z h l → value h x ≡ bit f j → j ≡ i + w → value l x ≡ bit f i → value r x ≡ bit f (i + cond (value z x) w 0)
-chosen-bit f i j w z h l r x e p k q =
-    ap (λ (t : ℕ). value t x) e ∙ value-chosen z h l x ∙ step_bit f i w (value z x) (value h x) (value l x) (p ∙ ap (bit f) k) q
+pub value-constant : (b : Bool) (x : Setting) → value (constant b) x ≡ b
+value-constant true x = value_true x
+value-constant false x = value_false x
+
+-- two neighbours of a list that is twice as long
+pub neighbour_lt : (k n : ℕ) (b : Bool) → k < n → 2 * k + cond b 1 0 < 2 * n
+neighbour_lt k n true h = omega arith
+neighbour_lt k n false h = omega arith
 
 pub leaf_true : (f i : ℕ) → bit_and (f / 2 ^ i) 1 ≡ 1 → true ≡ bit f i
 unfolding bit
@@ -211,20 +215,22 @@ pub leaf_false : (f i : ℕ) → (bit_and (f / 2 ^ i) 1 ≡ 1 → ⊥) → false
 unfolding bit
 leaf_false f i h = sym (ne_eqb ((f / 2 ^ i) % 2) 1 (λ e. h (and_mask (f / 2 ^ i) 1 ∙ e)))
 
+placed : (a b c d : Bool) → 2 * (2 * (2 * (2 * 0 + cond d 1 0) + cond c 1 0) + cond b 1 0) + cond a 1 0 ≡ cond a 1 0 + cond b 2 0 + cond c 4 0 + cond d 8 0
+placed a b c d = grind (arith, nat_tests)
+
 -- the table of f at four tables, by its values
 pub composed_code : (f p q r s t : ℕ) → t < 65536
-    → ((x : Setting) → value t x ≡ bit f (cond (value p x) 1 0 + cond (value q x) 2 0 + cond (value r x) 4 0 + cond (value s x) 8 0))
+    → ((x : Setting) → value t x ≡ bit f (2 * (2 * (2 * (2 * 0 + cond (value s x) 1 0) + cond (value r x) 1 0) + cond (value q x) 1 0) + cond (value p x) 1 0))
     → t ≡ composed f p q r s
 unfolding composed
-composed_code f p q r s t h e = is_table_of t (λ x. value f (record { a = value p x; b = value q x; c = value r x; d = value s x })) h (λ x. e x ∙ sym (plain f (record { a = value p x; b = value q x; c = value r x; d = value s x })))
+composed_code f p q r s t h e =
+    is_table_of t (λ x. value f (record { a = value p x; b = value q x; c = value r x; d = value s x })) h (λ x.
+    e x ∙ ap (bit f) (placed (value p x) (value q x) (value r x) (value s x))
+    ∙ sym (plain f (record { a = value p x; b = value q x; c = value r x; d = value s x })))
 
 pub value-composed : (f p q r s : ℕ) (x : Setting) → value (composed f p q r s) x ≡ value f (record { a = value p x; b = value q x; c = value r x; d = value s x })
 unfolding composed
 value-composed f p q r s x = value-table_of (λ y. value f (record { a = value p y; b = value q y; c = value r y; d = value s y })) x
-
-pub composed_lt : (f p q r s : ℕ) → composed f p q r s < 65536
-unfolding composed
-composed_lt f p q r s = table_of_lt (λ y. value f (record { a = value p y; b = value q y; c = value r y; d = value s y }))
 
 pub complement_lt : (f : ℕ) → complement f < 65536
 unfolding complement

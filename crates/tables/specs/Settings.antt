@@ -39,6 +39,17 @@ settings =
     setting true false false false ∷ setting true false false true ∷ setting true false true false ∷ setting true false true true ∷
     setting true true false false ∷ setting true true false true ∷ setting true true true false ∷ setting true true true true ∷ []
 
+-- the four variables, the lowest first
+abbrev pub variables : List Variable
+variables = V0 ∷ V1 ∷ V2 ∷ V3 ∷ []
+
+-- the number of a variable
+abbrev pub variable_number : Variable → ℕ
+variable_number V0 = 0
+variable_number V1 = 1
+variable_number V2 = 2
+variable_number V3 = 3
+
 -- how far apart the two indices are that differ in v alone
 abbrev pub span_of : Variable → ℕ
 span_of V0 = 1

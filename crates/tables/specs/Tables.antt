@@ -1,9 +1,10 @@
 -- A table is a number below 65536: bit i is its value at the setting of index i.
-use Rattle.std.specs.Prelude.{ℕ, ◌+◌, Bool, true, false, cond, not, map, Some, None, Option, ◌==◌}
+use Rattle.std.specs.Prelude.{ℕ, ◌+◌, ◌*◌, ◌%◌, ◌^◌, Bool, true, false, cond, not, map, Option, ◌==◌}
+use Rattle.std.specs.List.{find}
 use Rattle.tables.specs.declared.Variable.{Variable}
 use Rattle.tables.specs.declared.Variable.TheVariants.{V0, V1, V2, V3}
 use Rattle.tables.specs.Bits.{bit, from_bits}
-use Rattle.tables.specs.Settings.{Setting, get, put, index, settings}
+use Rattle.tables.specs.Settings.{Setting, get, put, index, settings, variables, span_of}
 
 -- the value of f at a setting
 unfoldable pub value : ℕ → Setting → Bool
@@ -35,7 +36,7 @@ depends_on f v = not (cofactor f v false == cofactor f v true)
 
 -- the lowest variable of the support
 abbrev pub lowest : ℕ → Option Variable
-lowest f = cond (depends_on f V0) (Some V0) (cond (depends_on f V1) (Some V1) (cond (depends_on f V2) (Some V2) (cond (depends_on f V3) (Some V3) None)))
+lowest f = find (depends_on f) variables
 
 -- how many variables the support has
 unfoldable pub support_size : ℕ → ℕ
@@ -44,6 +45,14 @@ support_size f = cond (depends_on f V0) 1 0 + cond (depends_on f V1) 1 0 + cond 
 -- f with v inverted
 unfoldable pub flipped : ℕ → Variable → ℕ
 flipped f v = table_of (λ x. value f (put x v (not (get x v))))
+
+-- f with each value at the index a span of v higher
+abbrev pub moved_up : ℕ → Variable → ℕ
+moved_up f v = (f * 2 ^ span_of v) % 65536
+
+-- the table that is b everywhere
+abbrev pub constant : Bool → ℕ
+constant b = cond b 65535 0
 
 -- f at four tables in the place of its variables
 unfoldable pub composed : ℕ → ℕ → ℕ → ℕ → ℕ → ℕ

@@ -1,25 +1,40 @@
 -- The 24 orders as permutations: they undo and follow one another. Each fact is one test over all of them.
-use Rattle.std.proofs.Common.{◌≡◌, ℕ, suc, ◌<◌, Bool, true, false, not, T, ltb, List, [], ◌∷◌, sym, refl, ◌∙◌, subst}
+use Rattle.std.proofs.Common.{◌≡◌, ℕ, suc, ◌<◌, Bool, true, false, not, T, ltb, List, [], ◌∷◌, map, slice_index_or, sym, refl, ap, ◌∙◌, subst}
 use Rattle.std.proofs.lemmas.Bool.{ltb-true, and_from}
+use Rattle.std.proofs.lemmas.List.{get_or-map}
 use Rattle.tables.specs.declared.Variable.{Variable}
 use Rattle.tables.specs.declared.Variable.TheVariants.{V0, V1, V2, V3}
 use Rattle.tables.specs.Settings.{same_variable}
 use Rattle.tables.proofs.Every.{both, both_left, both_right, every}
 use Rattle.tables.proofs.Every as all
 use Rattle.transforms.specs.declared.Order.{Order}
-use Rattle.transforms.specs.Orders.{at, IsOrder, position_in, orders, order_at}
+use Rattle.transforms.specs.declared.Numbers.{Numbers}
+use Rattle.transforms.specs.declared.TheConstants.{ORDERS}
+use Rattle.transforms.specs.Orders.{numbered, order_with, at, IsOrder, position_in, orders, order_at}
 use Rattle.transforms.specs.Orders as spec
 use Rattle.transforms.proofs.Variables.{same_bool, truth, same_bool_lem, implies, implied, same_variable_lem, variable_same, every_variable, at-variable}
 
 -- the order with these variables
 abbrev pub order_by : (Variable → Variable) → Order
-order_by g = (g V0, g V1, g V2, g V3)
+order_by g = order_with (g V0) (g V1) (g V2) (g V3)
 
 pub at_order_by : (g : Variable → Variable) (k : Variable) → at (order_by g) k ≡ g k
 at_order_by g V0 = refl
 at_order_by g V1 = refl
 at_order_by g V2 = refl
 at_order_by g V3 = refl
+
+-- ---- the orders of the source, by number
+
+abbrev of_numbers : Numbers → Order
+of_numbers n = order_with (numbered n.0) (numbered n.1) (numbered n.2) (numbered n.3)
+
+numbers_listed : map of_numbers ORDERS ≡ orders
+unfolding orders
+numbers_listed = refl
+
+pub numbered_order : (q : ℕ) (d : Numbers) → q < 24 → of_numbers (slice_index_or ORDERS q d) ≡ order_at q
+numbered_order q d h = sym (get_or-map of_numbers ORDERS q d _ h) ∙ ap (λ (os : List Order). slice_index_or os q (order_with V0 V1 V2 V3)) numbers_listed
 
 -- ---- an order has no variable twice
 
@@ -57,7 +72,7 @@ position_at q h k =
 
 -- four variables without a repetition: each stands somewhere
 found_test : Variable → Variable → Variable → Variable → Bool
-found_test a b c d = implies (spec.distinct a b c d) (every_variable (λ v. same_variable (at (a, b, c, d) (position_in (a, b, c, d) v)) v))
+found_test a b c d = implies (spec.distinct a b c d) (every_variable (λ v. same_variable (at (order_with a b c d) (position_in (order_with a b c d) v)) v))
 
 all_found : T (every_variable (λ a. every_variable (λ b. every_variable (λ c. every_variable (λ d. found_test a b c d)))))
 unfolding found_test
@@ -75,28 +90,28 @@ apart p o k j e = decide (same_variable (at p k) (at p j)) refl
 pub at_position : (p : Order) → IsOrder p → (v : Variable) → at p (position_in p v) ≡ v
 unfolding found_test
 at_position p o v =
-    let d : spec.distinct p.0 p.1 p.2 p.3 ≡ true =
+    let d : spec.distinct p.0.a p.0.b p.0.c p.0.d ≡ true =
     and_from _ _ (and_from _ _ (and_from _ _ (and_from _ _ (and_from _ _ (apart p o V0 V1 refl) (apart p o V0 V2 refl)) (apart p o V0 V3 refl)) (apart p o V1 V2 refl)) (apart p o V1 V3 refl)) (apart p o V2 V3 refl) in
-    let t = at-variable (λ d. found_test p.0 p.1 p.2 d)
-    (at-variable (λ c. every_variable (λ d. found_test p.0 p.1 c d))
-    (at-variable (λ b. every_variable (λ c. every_variable (λ d. found_test p.0 b c d)))
-    (at-variable (λ a. every_variable (λ b. every_variable (λ c. every_variable (λ d. found_test a b c d)))) all_found p.0) p.1) p.2) p.3 in
+    let t = at-variable (λ d. found_test p.0.a p.0.b p.0.c d)
+    (at-variable (λ c. every_variable (λ d. found_test p.0.a p.0.b c d))
+    (at-variable (λ b. every_variable (λ c. every_variable (λ d. found_test p.0.a b c d)))
+    (at-variable (λ a. every_variable (λ b. every_variable (λ c. every_variable (λ d. found_test a b c d)))) all_found p.0.a) p.0.b) p.0.c) p.0.d in
     same_variable_lem _ _ (at-variable (λ w. same_variable (at p (position_in p w)) w) (implied _ _ t d) v)
 
 -- ---- the number of an order, and the orders that others give
 
 abbrev same_order : Order → Order → Bool
-same_order p r = both (same_variable p.0 r.0) (both (same_variable p.1 r.1) (both (same_variable p.2 r.2) (same_variable p.3 r.3)))
+same_order p r = both (same_variable p.0.a r.0.a) (both (same_variable p.0.b r.0.b) (both (same_variable p.0.c r.0.c) (same_variable p.0.d r.0.d)))
 
 same_order_lem : (p r : Order) → T (same_order p r) → p ≡ r
 same_order_lem p r t =
-    let u = both_right (same_variable p.0 r.0) _ t in
-    let v = both_right (same_variable p.1 r.1) _ u in
-    let a : p.0 ≡ r.0 = same_variable_lem p.0 r.0 (both_left (same_variable p.0 r.0) _ t) in
-    let b : p.1 ≡ r.1 = same_variable_lem p.1 r.1 (both_left (same_variable p.1 r.1) _ u) in
-    let c : p.2 ≡ r.2 = same_variable_lem p.2 r.2 (both_left (same_variable p.2 r.2) _ v) in
-    let d : p.3 ≡ r.3 = same_variable_lem p.3 r.3 (both_right (same_variable p.2 r.2) _ v) in
-    λ i. (a i, b i, c i, d i)
+    let u = both_right (same_variable p.0.a r.0.a) _ t in
+    let v = both_right (same_variable p.0.b r.0.b) _ u in
+    let a : p.0.a ≡ r.0.a = same_variable_lem p.0.a r.0.a (both_left (same_variable p.0.a r.0.a) _ t) in
+    let b : p.0.b ≡ r.0.b = same_variable_lem p.0.b r.0.b (both_left (same_variable p.0.b r.0.b) _ u) in
+    let c : p.0.c ≡ r.0.c = same_variable_lem p.0.c r.0.c (both_left (same_variable p.0.c r.0.c) _ v) in
+    let d : p.0.d ≡ r.0.d = same_variable_lem p.0.d r.0.d (both_right (same_variable p.0.c r.0.c) _ v) in
+    λ i. order_with (a i) (b i) (c i) (d i)
 
 abbrev number_in : List Order → Order → ℕ
 number_in [] p = 0
@@ -122,7 +137,7 @@ is_listed p t = record {
   is = same_order_lem p (order_at (order_number p)) (both_right (ltb (order_number p) 24) _ t);
 }
 
--- first r, then q
+-- first r, then p
 abbrev pub following : Order → Order → Order
 following p r = order_by (λ k. at p (at r k))
 

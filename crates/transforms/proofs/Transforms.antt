@@ -1,5 +1,5 @@
 -- Images of images, and back: the transforms are a group.
-use Rattle.std.proofs.Common.{◌≡◌, ℕ, zero, suc, ◌+◌, ◌*◌, ◌/◌, ◌%◌, ◌<◌, ◌≤◌, Bool, true, false, cond, not, T, leb, List, [], ◌∷◌, length, get_or, sym, refl, ap, ◌∙◌, subst, ap₂, le_of_suc-le-suc, not-suc-le-zero, add-zero, add-suc, suc-add, zero-add, arith}
+use Rattle.std.proofs.Common.{◌≡◌, ℕ, ◌+◌, ◌*◌, ◌/◌, ◌%◌, ◌<◌, ◌≤◌, Bool, true, false, cond, not, T, leb, [], ◌∷◌, sym, refl, ap, ◌∙◌, subst, ap₂, zero-add, arith}
 use Rattle.std.proofs.lemmas.Bool.{le-leb, lt-leb}
 use Rattle.tables.specs.declared.Variable.{Variable}
 use Rattle.tables.specs.declared.Variable.TheVariants.{V0, V1, V2, V3}
@@ -7,7 +7,7 @@ use Rattle.tables.specs.Bits.{bit, from_bits, inverted}
 use Rattle.tables.specs.Settings.{Setting, get, put, same_variable}
 use Rattle.tables.specs.Tables.{value, flipped, complement, composed}
 use Rattle.tables.proofs.Bitwise.{bit-from_bits, from_bits_lt}
-use Rattle.tables.proofs.Laws.{value-table_of, table_of_lt, value-flipped, value-complement, value-composed, flipped_lt, complement_lt, composed_lt, same_values}
+use Rattle.tables.proofs.Laws.{value-table_of, table_of_lt, value-flipped, value-complement, value-composed, flipped_lt, complement_lt, same_values}
 use Rattle.transforms.specs.declared.Order.{Order}
 use Rattle.transforms.specs.declared.Transform.{Transform}
 use Rattle.transforms.specs.Orders.{at, IsOrder, position_in, order_at, orders}
@@ -200,7 +200,7 @@ flip_mask o q m n k f h e =
 -- ---- the code's steps
 
 -- a composition with the four inputs as the transform gives them
-pub image-composed : (t : Transform) (f p q r s : ℕ)
+image-composed : (t : Transform) (f p q r s : ℕ)
     → ((x : Setting) → value p x ≡ read_from t x V0) → ((x : Setting) → value q x ≡ read_from t x V1)
     → ((x : Setting) → value r x ≡ read_from t x V2) → ((x : Setting) → value s x ≡ read_from t x V3)
     → (x : Setting) → inverted t.output (value (composed f p q r s) x) ≡ value (image t f) x
@@ -215,21 +215,11 @@ image-composed t f p q r s a b c d x =
     inputs x V2 = c x
     inputs x V3 = d x
 
-pub image_plain : (t : Transform) (f p q r s : ℕ) → t.output ≡ false
+pub image_code : (t : Transform) (f p q r s g : ℕ) → g < 65536
     → ((x : Setting) → value p x ≡ read_from t x V0) → ((x : Setting) → value q x ≡ read_from t x V1)
     → ((x : Setting) → value r x ≡ read_from t x V2) → ((x : Setting) → value s x ≡ read_from t x V3)
-    → composed f p q r s ≡ image t f
-image_plain t f p q r s o a b c d =
-    same_values (composed f p q r s) (image t f) (composed_lt f p q r s) (image_lt t f)
-    (λ x. ap (λ (i : Bool). inverted i (value (composed f p q r s) x)) (sym o) ∙ image-composed t f p q r s a b c d x)
-
-pub image-inverted : (t : Transform) (f p q r s : ℕ) → t.output ≡ true
-    → ((x : Setting) → value p x ≡ read_from t x V0) → ((x : Setting) → value q x ≡ read_from t x V1)
-    → ((x : Setting) → value r x ≡ read_from t x V2) → ((x : Setting) → value s x ≡ read_from t x V3)
-    → complement (composed f p q r s) ≡ image t f
-image-inverted t f p q r s o a b c d =
-    same_values (complement (composed f p q r s)) (image t f) (complement_lt (composed f p q r s)) (image_lt t f)
-    (λ x. value-complement (composed f p q r s) x ∙ ap (λ (i : Bool). inverted i (value (composed f p q r s) x)) (sym o) ∙ image-composed t f p q r s a b c d x)
+    → ((x : Setting) → value g x ≡ inverted t.output (value (composed f p q r s) x)) → g ≡ image t f
+image_code t f p q r s g h a b c d e = same_values g (image t f) h (image_lt t f) (λ x. e x ∙ image-composed t f p q r s a b c d x)
 
 halves : (n : ℕ) → n < 384 → (f : ℕ) (x : Setting) → inverted (transform_at (384 + n)).output (value f (read_at (transform_at (384 + n)) x)) ≡ not (inverted (transform_at n).output (value f (read_at (transform_at n) x)))
 unfolding transform_at
@@ -262,16 +252,3 @@ plain_number q m h l = ap transform_at (sym (zero-add (16 * q + m))) ∙ at_numb
 pub flipped_to : (r s f q m n : ℕ) (k v : Variable) → q < 24 → r ≡ image (record { output = false; order = order_at q; mask = m }) f → v ≡ at (order_at q) k → s ≡ flipped r v
     → Toggled m n k → s ≡ image (record { output = false; order = order_at q; mask = n }) f
 flipped_to r s f q m n k v h a b c t = c ∙ ap₂ flipped a b ∙ flip_mask false q m n k f h t
-
--- each element of a list is g at its place, counted from j
-abbrev pub AllFrom : (ℕ → ℕ) → ℕ → List ℕ → Type 0
-AllFrom g j [] = Unit {0}
-AllFrom g j (x ∷ xs) = (x ≡ g j) × AllFrom g (suc j) xs
-
-from : (g : ℕ → ℕ) (j : ℕ) (xs : List ℕ) → AllFrom g j xs → (m : ℕ) → m < length xs → get_or xs m 0 ≡ g (j + m)
-from g j [] a m h = absurd (not-suc-le-zero h)
-from g j (x ∷ xs) a zero h = a.0 ∙ ap g (sym (add-zero j))
-from g j (x ∷ xs) a (suc m) h = from g (suc j) xs a.1 m (le_of_suc-le-suc h) ∙ ap g (suc-add j m ∙ sym (add-suc j m))
-
-pub at-index_from : (g : ℕ → ℕ) (xs : List ℕ) → AllFrom g 0 xs → (m : ℕ) → m < length xs → get_or xs m 0 ≡ g m
-at-index_from g xs a m h = from g 0 xs a m h ∙ ap g (zero-add m)

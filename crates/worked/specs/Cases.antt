@@ -4,10 +4,6 @@ use Rattle.classes.specs.declared.Ownership.{Ownership}
 use Rattle.netlists.specs.declared.Node.{Node}
 use Rattle.netlists.specs.Placing.{signal_of, no_signal, after_place, empty}
 
--- what the AND kind owns: class 15 alone
-abbrev pub and_only : Ownership
-and_only = record { xor = false; majority = false; every = false }
-
 -- ---- a place call
 
 abbrev node_a : Node

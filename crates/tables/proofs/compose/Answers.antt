@@ -1,16 +1,18 @@
-use Rattle.std.proofs.Common.{◌≡◌, ◌+◌, cond, ap, ◌∙◌, arith}
+use Rattle.std.proofs.Common.{◌≡◌, ℕ, ap, ◌∙◌, rules, arith}
 use Rattle.tables.specs.Bits.{bit}
-use Rattle.tables.specs.Tables.{value}
-use Rattle.tables.proofs.Laws.{chosen-bit, composed_code}
+use Rattle.tables.specs.Tables.{value, constant}
+use Rattle.tables.proofs.Calls.{from_fn_at}
+use Rattle.tables.proofs.Laws.{value-neighbours, value-constant, neighbour_lt, composed_code}
 use Rattle.tables.proofs.compose.Goals as goal
 
 pub returns : goal.returns
 returns c =
-    composed_code c.args.f c.args.a c.args.b c.args.c c.args.d c.choose.result c.choose.type_inv (λ x.
-    let low = 0 + cond (value c.args.a x) 1 0 + cond (value c.args.b x) 2 0 + cond (value c.args.c x) 4 0 in
-    let high = 8 + cond (value c.args.a x) 1 0 + cond (value c.args.b x) 2 0 + cond (value c.args.c x) 4 0 in
-    let apart : high ≡ low + 8 = omega arith in
-    let start : low + cond (value c.args.d x) 8 0 ≡ cond (value c.args.a x) 1 0 + cond (value c.args.b x) 2 0 + cond (value c.args.c x) 4 0 + cond (value c.args.d x) 8 0 = omega arith in
-    chosen-bit c.args.f low high 8 c.args.d c.compose_octet.result c.compose_octet-2.result c.choose.result x
-    c.choose.ensures (c.compose_octet.ensures x) apart (c.compose_octet-2.ensures x)
-    ∙ ap (bit c.args.f) start)
+    let i = c.args.inputs in
+    composed_code c.args.f i.a i.b i.c i.d c.choose.result c.choose.type_inv (λ x.
+    let d = neighbour_lt 0 1 (value i.d x) (omega arith) in
+    let e = neighbour_lt _ 2 (value i.c x) d in
+    let f = neighbour_lt _ 4 (value i.b x) e in
+    let g = neighbour_lt _ 8 (value i.a x) f in
+    value-neighbours i.d c.choose.result 0 c.choose_each-halves.result x c.choose.ensures
+    ∙ c.choose_each-halves.ensures x _ d ∙ c.choose_each-quarters.ensures x _ e ∙ c.choose_each-eighths.ensures x _ f
+    ∙ ap (λ (t : ℕ). value t x) (from_fn_at (λ k t. t ≡ constant (bit c.args.f k)) c.from_fn-sixteenths.ensures.items (λ k t q b. search rules) _ 0 g) ∙ value-constant _ x)

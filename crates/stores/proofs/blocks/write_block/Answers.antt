@@ -1,7 +1,9 @@
-use Rattle.std.proofs.Common.{rules}
-use Rattle.stores.specs.Blocks.{with_block}
+use Rattle.std.proofs.Common.{◌+◌, ◌-◌, length, ap, arith}
+use Rattle.std.proofs.lemmas.Slice.{drop-put_mid}
 use Rattle.stores.proofs.blocks.write_block.Goals as goal
 
-pub returns : goal.returns
-unfolding with_block
-returns c = record { items = cc; len = search rules }
+pub returns-clause-after : goal.returns-clause-after
+returns-clause-after c =
+    let r = c.requires in
+    let e = ap length c.copy_from_slice.ensures.after in
+    drop-put_mid c.args.start (c.args.start + length c.args.block.now - c.args.start) c.args.words.now c.copy_from_slice.new.self (c.args.start + length c.args.block.now) (omega arith) (omega arith) (omega arith)

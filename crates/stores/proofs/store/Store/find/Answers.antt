@@ -1,15 +1,10 @@
-use Rattle.std.proofs.Common.{arith}
-use Rattle.codings.proofs.Back.{lawful}
-use Rattle.stores.proofs.Stores.{rows_fit, found}
+use Rattle.std.proofs.Common.{◌≡◌, ◌∙◌, rules}
+use Rattle.std.proofs.lemmas.Iterator.{IsFirst-from_position, YieldsList-from_slice}
+use borrow.Author.Tests.{tests}
+use Rattle.stores.proofs.Stores.{found}
 use Rattle.stores.proofs.store.Store.find.Goals as goal
 
-pub find_block-requires : goal.find_block-requires
-find_block-requires c =
-    let l = (lawful c.args.self.now.coding).least in
-    let f = rows_fit c.args.self.now c.width-width.result c.width-width.ensures in
-    (omega arith, omega arith)
-
 pub returns : goal.returns
-returns c =
-    found c.args.self.now c.find_block.result c.args.row c.width-width.result c.as_slice.result.now c.encode-key.result
-    c.requires c.width-width.ensures c.as_slice.ensures.value c.encode-key.ensures.words c.find_block.ensures
+returns g c =
+    found c.args.self.now c.position.result c.args.row g.met.C.Coding.lawful c.requires
+    (IsFirst-from_position _ _ _ (λ b. b ≡ g.C.Coding.coder.encode c.args.row) (λ b. b ≡ g.C.Coding.coder.encode c.args.row → ⊥) c.position.ensures.ran (YieldsList-from_slice _ (c.iter.ensures.rest ∙ c.blocks-2.ensures)) (λ x q k. search (rules, tests)) (λ x q k. search (rules, tests)))

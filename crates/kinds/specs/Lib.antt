@@ -1,2 +1,0 @@
-pub mod Codings
-pub mod Fixed

@@ -1,0 +1,224 @@
+//! Transforms of tables, and classes by their definition: the least of all 768 images.
+ghost use Rattle.std.specs.Prelude.{◌≡◌, ◌↔◌, ◌%◌, ◌≤◌, [], length, map, bit_xor, Contains, IsNone, IfOk, IfSome};
+ghost use Rattle.std.specs.List.{range_with_len};
+ghost use Rattle.std.specs.Option.{option_map};
+ghost use Rattle.reference.specs.Tables.{bit};
+ghost use Rattle.reference.specs.Classes.{image, in_order, inverted, transform_at, class_in, has, owned_at};
+
+use crate::tables::Variable::{V0, V1, V2, V3};
+use crate::tables::{Variable, setting_of, table_of, value_at};
+use std::alloc::{AllocError, Global};
+
+/// The image of a table at a setting is the table at the values of the variables in this order, inverted where the mask is true, and
+/// then inverted if the output is. The mask is a setting, so it is a number like the others.
+#[derive(Clone, Copy, PartialEq, Eq)]
+pub struct Transform {
+    pub output: bool,
+    pub order: [Variable; 4],
+    pub mask: u16,
+}
+
+// The setting of the variables' values, in this order.
+fn read_in(order: [Variable; 4], x: u16) -> u16
+    ensures { result ≡ in_order order x }
+{
+    setting_of(order.map(|v| v.is_set(x)))
+}
+
+impl Transform {
+    /// The image of a table.
+    pub fn image_of(self, f: u16) -> u16
+        ensures { result ≡ image self f }
+    {
+        table_of(
+            |x: u16| -> bool
+                ensures { result ≡ inverted self.output (bit f (bit_xor (in_order self.order x) self.mask % 16)) }
+            {
+                let z = read_in(self.order, x);
+                value_at(f, z ^ self.mask) != self.output
+            },
+        )
+    }
+}
+
+// The 24 orders of the variables, lexicographically.
+const ORDERS: [[Variable; 4]; 24] = [
+    [V0, V1, V2, V3],
+    [V0, V1, V3, V2],
+    [V0, V2, V1, V3],
+    [V0, V2, V3, V1],
+    [V0, V3, V1, V2],
+    [V0, V3, V2, V1],
+    [V1, V0, V2, V3],
+    [V1, V0, V3, V2],
+    [V1, V2, V0, V3],
+    [V1, V2, V3, V0],
+    [V1, V3, V0, V2],
+    [V1, V3, V2, V0],
+    [V2, V0, V1, V3],
+    [V2, V0, V3, V1],
+    [V2, V1, V0, V3],
+    [V2, V1, V3, V0],
+    [V2, V3, V0, V1],
+    [V2, V3, V1, V0],
+    [V3, V0, V1, V2],
+    [V3, V0, V2, V1],
+    [V3, V1, V0, V2],
+    [V3, V1, V2, V0],
+    [V3, V2, V0, V1],
+    [V3, V2, V1, V0],
+];
+
+// Transform number `n`.
+fn nth_transform(n: u16) -> Transform
+    ensures { result ≡ transform_at n }
+{
+    Transform {
+        output: n >= 384,
+        order: ORDERS[usize::from(n / 16 % 24)],
+        mask: n % 16,
+    }
+}
+
+/// The 768 transforms, by output, then order, then mask.
+pub fn list_transforms(heap: Global) -> Result<Vec<Transform>, AllocError>
+    ensures { IfOk result (λ transforms. transforms.items ≡ map transform_at (range_with_len 0 768)) }
+{
+    (0..768).map(nth_transform).collect(heap)
+}
+
+/// The least image of a table, and the first transform that gives it.
+#[derive(Clone, Copy, PartialEq, Eq)]
+pub struct Class {
+    pub representative: u16,
+    pub transform: Transform,
+}
+
+impl Class {
+    /// The class of a table by the images under these transforms.
+    pub fn among(transforms: &[Transform], f: u16) -> Option<Class>
+        ensures none { IsNone result ↔ (transforms.now ≡ []) }
+        ensures image { IfSome result (λ class. Contains transforms.now class.transform × class.representative ≡ image class.transform f) }
+        ensures least { IfSome result (λ class. (t : _) → Contains transforms.now t → class.representative ≤ image t f) }
+    {
+        transforms
+            .iter()
+            .map(|transform| Class {
+                representative: transform.image_of(f),
+                transform: *transform,
+            })
+            .min_by_key(|class| class.representative)
+    }
+}
+
+/// The classes of all tables.
+#[derive(Drop)]
+pub struct Atlas {
+    classes: Vec<Option<Class>>,
+}
+
+impl Atlas {
+    /// Goes through the images of every table.
+    pub fn new(heap: Global) -> Result<Atlas, AllocError>
+        ensures { IfOk result (λ atlas. length atlas.classes.items ≡ 65536) }
+    {
+        let transforms = list_transforms(heap)?;
+        let classes = (0..=u16::MAX)
+            .map(|f| Class::among(&transforms, f))
+            .collect(heap)?;
+        Ok(Atlas { classes })
+    }
+
+    /// The class of a table.
+    pub fn class(&self, f: u16) -> Option<Class>
+        ensures { result ≡ class_in self.now f }
+    {
+        *self.classes.get(f as usize)?
+    }
+
+    /// The number of a table's class.
+    pub fn number(&self, f: u16) -> Option<u16>
+        ensures { result ≡ option_map (λ class. class.representative) (class_in self.now f) }
+    {
+        self.class(f).map(|class| class.representative)
+    }
+
+    /// Whether a table's class is owned.
+    pub fn owns(&self, own: Owned, f: u16) -> Option<bool>
+        ensures { result ≡ option_map (λ class. has own class.representative) (class_in self.now f) }
+    {
+        self.number(f).map(|class| own.has(class))
+    }
+}
+
+/// What is owned besides class 15.
+#[derive(Clone, Copy)]
+pub struct Owned {
+    pub xor: bool,
+    pub majority: bool,
+    pub every: bool,
+}
+
+impl Owned {
+    // Number `n` of the eight.
+    fn nth(n: u8) -> Owned
+        ensures { result ≡ owned_at n }
+    {
+        Owned {
+            xor: n % 2 == 1,
+            majority: n / 2 % 2 == 1,
+            every: n / 4 % 2 == 1,
+        }
+    }
+
+    /// The eight: every class outermost, then the majority, then the exclusive-or.
+    pub fn all() -> [Owned; 8]
+        ensures { result ≡ map owned_at (range_with_len 0 8) }
+    {
+        let at = Owned::nth;
+        [at(0), at(1), at(2), at(3), at(4), at(5), at(6), at(7)]
+    }
+
+    // Whether a class is owned.
+    fn has(self, class: u16) -> bool
+        ensures { result ≡ has self class }
+    {
+        match class {
+            15 => true,
+            4080 => self.xor || self.every,
+            831 => self.majority || self.every,
+            _ => self.every,
+        }
+    }
+}
+
+#[cfg(test)]
+mod tests {
+    use super::*;
+    use std::test::Fail;
+
+    #[test]
+    fn lists_transforms(rt: HostRuntime) -> Result<(), Fail> {
+        let transforms = list_transforms(rt.alloc())?;
+        assert_eq!(rt; transforms.len(), 768);
+        let plain = Transform {
+            output: false,
+            order: [V0, V1, V2, V3],
+            mask: 0,
+        };
+        let next = Transform {
+            order: [V0, V1, V3, V2],
+            mask: 1,
+            ..plain
+        };
+        let last = Transform {
+            output: true,
+            order: [V3, V2, V1, V0],
+            mask: 15,
+        };
+        assert!(rt; transforms.first() == Some(&plain));
+        assert!(rt; transforms.get(17) == Some(&next));
+        assert!(rt; transforms.last() == Some(&last));
+        Ok(())
+    }
+}

@@ -1,5 +1,0 @@
-use Rattle.tables.proofs.Laws.{low_code}
-use Rattle.tables.proofs.low_cofactor.Goals as goal
-
-pub returns : goal.returns
-returns c = let e = low_code c.args.f c.args.v in cc
