@@ -123,7 +123,7 @@ pub struct Model {
 
 impl Model {
     /// A network with nothing in it.
-    pub fn new(heap: Global, places: usize, owned: Ownership) -> Model {
+    pub(crate) fn new(heap: Global, places: usize, owned: Ownership) -> Model {
         Model {
             inputs: 0,
             rows: Vec::new(heap),
@@ -144,7 +144,7 @@ impl Model {
     }
 
     /// What a call comes to, or why it is refused; nothing changes yet.
-    pub fn judge(&self, call: Call) -> Result<Accepted, Refusal> {
+    pub(crate) fn judge(&self, call: Call) -> Result<Accepted, Refusal> {
         match call {
             Call::Start(inputs) => self.start(inputs),
             Call::Output(signal) => self.output(signal),
@@ -153,7 +153,7 @@ impl Model {
     }
 
     /// Makes a change.
-    pub fn make(&mut self, change: Change) -> Result<(), AllocError> {
+    pub(crate) fn make(&mut self, change: Change) -> Result<(), AllocError> {
         match change {
             Change::Start(inputs) => {
                 self.inputs = inputs;

@@ -121,12 +121,12 @@ fn drive<N: Network>(heap: Global, net: &mut N) -> Result<Tally, AllocError> {
 }
 
 /// The words of a network that is to be driven.
-pub fn marked(heap: Global, words: usize) -> Result<Vec<u16>, AllocError> {
+pub(crate) fn marked(heap: Global, words: usize) -> Result<Vec<u16>, AllocError> {
     vec![in heap; MARK; words]
 }
 
 /// Drives a network just opened over so many marked words.
-pub fn run_kind<C: Coding<W>, const W: usize>(
+pub(crate) fn run_kind<C: Coding<W>, const W: usize>(
     heap: Global,
     words: usize,
     mut net: Gates<C, W>,

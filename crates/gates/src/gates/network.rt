@@ -38,7 +38,8 @@ impl<C: Coding<W>, const W: usize> Network for Gates<C, W> {
     }
 
     fn place(&mut self, table: Table, fanins: Fanins) -> Result<Signal, Refusal>
-        ensures answer { Answers (after_place C.ownership (places_of self.old) (netlist_of self.old) table fanins) result (λ s. record { signal = s; netlist = netlist_of self.new }) (self.new ≡ self.old) }
+        ensures answer { Answers (after_place C.ownership (places_of self.old) (netlist_of self.old) table fanins) result
+            (λ s. record { signal = s; netlist = netlist_of self.new }) (self.new ≡ self.old) }
         ensures kept { places_of self.new ≡ places_of self.old }
         ensures words { KeptIn self.old self.new }
     {

@@ -37,7 +37,8 @@ impl<C: Coding<W>, const W: usize> Store<C, W> {
     /// Adds a row that the coding codes, and answers its number. It is refused where every place is taken, and nothing is altered.
     pub fn push(&mut self, row: Row) -> Result<usize, Full>
         requires { C.coder.codes row ≡ true }
-        ensures { MatchResult result (λ n. (n ≡ length (rows_of self.old)) × Pushed self.old self.new row) (λ _. (length (rows_of self.old) ≡ self.old.places) × (self.new ≡ self.old)) }
+        ensures { MatchResult result (λ n. (n ≡ length (rows_of self.old)) × Pushed self.old self.new row)
+            (λ _. (length (rows_of self.old) ≡ self.old.places) × (self.new ≡ self.old)) }
     {
         let n = self.count;
         if n >= self.places {
