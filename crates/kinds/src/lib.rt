@@ -32,3 +32,15 @@ pub fn owned_by_kinds() -> [Ownership; 4]
         TableNetwork::owned(),
     ]
 }
+
+/// How many of the caller's words a place takes in each kind, in the order of this file.
+pub fn words_by_kinds() -> [usize; 4]
+    ensures { result ≡ 2 ∷ 2 ∷ 3 ∷ 5 ∷ [] }
+{
+    [
+        AndNetwork::words_a_place(),
+        AndXorNetwork::words_a_place(),
+        MajorityNetwork::words_a_place(),
+        TableNetwork::words_a_place(),
+    ]
+}

@@ -11,13 +11,15 @@ use kinds::{AndNetwork, AndXorNetwork, MajorityNetwork, TableNetwork};
 use runs::{marked, run_kind};
 use std::io;
 
+// A kind whose place takes `width` words, over `words` of them. The width is written here once more, so that it is compared.
 fn show<C: Coding<W>, const W: usize>(
     rt: &HostRuntime,
     kind: &str,
+    width: usize,
     words: usize,
     net: Gates<C, W>,
 ) -> io::Result<()> {
-    let tally = run_kind(rt.alloc(), words, net)?;
+    let tally = run_kind(rt.alloc(), words, width, net)?;
     println!(rt; "{kind}: {tally}")
 }
 
@@ -25,20 +27,14 @@ fn show<C: Coding<W>, const W: usize>(
 fn show_all(rt: &HostRuntime, words: usize) -> io::Result<()> {
     let heap = rt.alloc();
     println!(rt; "over {words} words")?;
-    show(rt, "AND", words, AndNetwork::new(marked(heap, words)?))?;
-    show(
-        rt,
-        "AND-XOR",
-        words,
-        AndXorNetwork::new(marked(heap, words)?),
-    )?;
-    show(
-        rt,
-        "majority",
-        words,
-        MajorityNetwork::new(marked(heap, words)?),
-    )?;
-    show(rt, "table", words, TableNetwork::new(marked(heap, words)?))
+    let net = AndNetwork::new(marked(heap, words)?);
+    show(rt, "AND", 2, words, net)?;
+    let net = AndXorNetwork::new(marked(heap, words)?);
+    show(rt, "AND-XOR", 2, words, net)?;
+    let net = MajorityNetwork::new(marked(heap, words)?);
+    show(rt, "majority", 3, words, net)?;
+    let net = TableNetwork::new(marked(heap, words)?);
+    show(rt, "table", 5, words, net)
 }
 
 fn main(rt: HostRuntime) -> io::Result<()> {

@@ -125,13 +125,14 @@ pub(crate) fn marked(heap: Global, words: usize) -> Result<Vec<u16>, AllocError>
     vec![in heap; MARK; words]
 }
 
-/// Drives a network just opened over so many marked words.
+/// Drives a network just opened over so many marked words, of which a place takes `width`.
 pub(crate) fn run_kind<C: Coding<W>, const W: usize>(
     heap: Global,
     words: usize,
+    width: usize,
     mut net: Gates<C, W>,
 ) -> Result<Tally, AllocError> {
     let mut tally = drive(heap, &mut net)?;
-    tally.compare_words(&net.into_words(), words, W);
+    tally.compare_words(&net.into_words(), words, width);
     Ok(tally)
 }

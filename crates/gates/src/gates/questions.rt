@@ -11,6 +11,13 @@ use netlists::{Fanins, Node, Signal};
 use tables::Table;
 
 impl<C: Coding<W>, const W: usize> Gates<C, W> {
+    /// How many of the caller's words a place takes.
+    pub fn words_a_place() -> usize
+        ensures { result ≡ W }
+    {
+        W
+    }
+
     /// Whether the node is there.
     pub fn has_node(&self, node: Node) -> bool
         ensures { result ≡ is_there (netlist_of self.now) node }
