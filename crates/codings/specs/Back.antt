@@ -1,4 +1,4 @@
--- Rows of nodes below 1024 and of few tables come back from their words.
+-- Rows of nodes below 1024 and of few tables come back from their words; rows that come back are told apart by their words.
 use Rattle.std.proofs.Common.{◌≡◌, ℕ, ◌+◌, ◌*◌, ◌/◌, ◌%◌, ◌<◌, ◌≤◌, true, eqb, ltb, List, get_or, take, Option, Some, None, sym, refl, ap, ◌∙◌, inl, inr, arith}
 use Rattle.std.specs.List.{position}
 use Rattle.std.specs.Option.{is_some, unwrap_or}
@@ -7,7 +7,7 @@ use Rattle.std.proofs.lemmas.List.{get_or-take, get_or_past, length-take}
 use Rattle.std.proofs.lemmas.List.Quantifiers.{position-Some}
 use Rattle.netlists.specs.declared.Node.{Node}
 use Rattle.netlists.specs.declared.Row.{Row}
-use Rattle.codings.specs.Coders.{Lawful}
+use Rattle.codings.specs.Coders.{Coder, Lawful}
 use Rattle.codings.specs.Codes.{number_in, near_node, near_nodes, near_encode, near_decode, near_coder}
 
 -- ---- nodes and tables
@@ -65,3 +65,8 @@ near_lawful w ts least few = record {
   wide = λ r. length-take w _ ∙ omega arith;
   back = near_back w ts (omega arith);
 }
+
+-- ---- two rows that a coding codes have the same words only where they are equal
+
+pub same_row_lem : (w : ℕ) (k : Coder) → Lawful w k → (r s : Row) → k.codes r ≡ true → k.codes s ≡ true → k.encode r ≡ k.encode s → r ≡ s
+same_row_lem w k l r s x y e = sym (l.back r x) ∙ ap k.decode e ∙ l.back s y

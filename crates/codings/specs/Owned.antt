@@ -1,4 +1,4 @@
--- A lawful row of nodes below 1024 whose class is owned is coded.
+-- A row of nodes below 1024 whose table is of an owned class is coded, in whatever order its nodes stand; so a lawful row is.
 use Rattle.std.proofs.Common.{◌≡◌, ℕ, ◌<◌, ◌≤◌, Bool, true, false, not, ◌&&◌, ◌||◌, eqb, ltb, List, sym, refl, ap, ◌∙◌, subst, inl, inr, ⊎_elim, arith}
 use Rattle.std.specs.List.{position}
 use Rattle.std.specs.Option.{is_some}
@@ -8,13 +8,15 @@ use Rattle.tables.specs.Bits.{bit, from_bits}
 use Rattle.tables.specs.declared.Variable.TheVariants.{V0, V1, V2, V3}
 use Rattle.tables.specs.Tables.{value, table_of, cofactor, depends_on}
 use Rattle.classes.specs.declared.Ownership.{Ownership}
-use Rattle.classes.specs.Owned.{owns, and_ownership, and_xor_ownership, majority_ownership}
+use Rattle.classes.specs.Owned.{owns, and_ownership, and_xor_ownership, majority_ownership, table_ownership}
 use Rattle.classes.specs.Normal.{NormalTable, is_and, is_xor, is_majority}
 use Rattle.classes.proofs.Normal.{conjunction_normal, exclusive_or-normal, majority_normal}
 use Rattle.netlists.specs.declared.Node.{Node}
 use Rattle.netlists.specs.declared.Row.{Row}
 use Rattle.netlists.specs.Lawful.{Normal, LawfulRow}
-use Rattle.codings.specs.Codes.{and_tables, and_xor_tables, majority_tables, near_node, near_nodes, near_coder}
+use Rattle.codings.specs.Coders.{Coder}
+use Rattle.codings.specs.Codes.{and_tables, and_coder, and_xor_tables, and_xor_coder, majority_tables, majority_coder, every_coder, near_node, near_nodes, near_coder}
+use Rattle.codings.specs.Rows.{Shaped, Near, Codable}
 
 -- ---- what is owned, by the tables of the classes
 
@@ -82,38 +84,72 @@ near_from w k n d l x e =
           cond-false (ltb k w) _ _ f ∙ eq-eqb n.number 0 (omega arith)
     ]
 
-pub normal_table : (r : Row) → Normal r → 0 < r.nodes.b.number → NormalTable r.table
-normal_table r n two = record {
-  zero = n.zero;
-  first = n.exact V0 ∙ lt-ltb 0 r.nodes.a.number (n.ascending_b two).0;
-  second = n.exact V1 ∙ lt-ltb 0 r.nodes.b.number two;
-  third = λ e. n.exact V2 ∙ lt-ltb 0 r.nodes.c.number (n.ascending_d (ltb-true 0 r.nodes.d.number (sym (n.exact V3) ∙ e))).0;
+shaped_table : (r : Row) → Shaped r → NormalTable r.table
+shaped_table r s = record {
+  zero = s.zero;
+  first = s.exact_a ∙ lt-ltb 0 r.nodes.a.number s.used_a;
+  second = s.exact_b ∙ lt-ltb 0 r.nodes.b.number s.used_b;
+  third = λ e. s.exact_c ∙ lt-ltb 0 r.nodes.c.number (s.used_c (ltb-true 0 r.nodes.d.number (sym s.exact_d ∙ e)));
 }
 
-owned : (o : Ownership) (r : Row) → LawfulRow o 1024 r → owned_tables o r.table ≡ true
-owned o r l = sym (by_tables o r.table l.shape.fits (normal_table r l.shape l.two)) ∙ l.owned
+owned : (o : Ownership) (r : Row) → Shaped r → owns o r.table ≡ true → owned_tables o r.table ≡ true
+owned o r s e = sym (by_tables o r.table s.fits (shaped_table r s)) ∙ e
 
-coded : (w : ℕ) (ts : List ℕ) → 2 ≤ w → (o : Ownership) (r : Row) → LawfulRow o 1024 r → Listed w ts r.table → (near_coder w ts).codes r ≡ true
-coded w ts h o r l e =
+coded : (w : ℕ) (ts : List ℕ) → 2 ≤ w → (r : Row) → Shaped r → Near r → Listed w ts r.table → (near_coder w ts).codes r ≡ true
+coded w ts h r s n e =
     let p = and_parts (is_some (position (λ x. eqb x r.table) ts) && (ltb 2 w || not (depends_on r.table V2))) (ltb 3 w || not (depends_on r.table V3)) e in
     let q = and_parts (is_some (position (λ x. eqb x r.table) ts)) (ltb 2 w || not (depends_on r.table V2)) p.0 in
     and_from (near_nodes w r) (is_some (position (λ x. eqb x r.table) ts))
     (and_from _ (near_node w 3 r.nodes.d)
     (and_from _ (near_node w 2 r.nodes.c)
-    (and_from (near_node w 0 r.nodes.a) (near_node w 1 r.nodes.b) (near_here w 0 r.nodes.a (omega arith) (l.earlier V0)) (near_here w 1 r.nodes.b (omega arith) (l.earlier V1)))
-    (near_from w 2 r.nodes.c (depends_on r.table V2) (l.earlier V2) (l.shape.exact V2) q.1))
-    (near_from w 3 r.nodes.d (depends_on r.table V3) (l.earlier V3) (l.shape.exact V3) p.1))
+    (and_from (near_node w 0 r.nodes.a) (near_node w 1 r.nodes.b) (near_here w 0 r.nodes.a (omega arith) n.near_a) (near_here w 1 r.nodes.b (omega arith) n.near_b))
+    (near_from w 2 r.nodes.c (depends_on r.table V2) n.near_c s.exact_c q.1))
+    (near_from w 3 r.nodes.d (depends_on r.table V3) n.near_d s.exact_d p.1))
     q.0
 
+-- ---- each coding
+
+pub and_codable : Codable and_ownership and_coder
+and_codable r s n e = coded 2 and_tables (omega arith) r s n (and_listed r.table (or_false (is_and r.table) (or_false _ (owned and_ownership r s e))))
+
+pub and_xor_codable : Codable and_xor_ownership and_xor_coder
+and_xor_codable r s n e =
+    coded 2 and_xor_tables (omega arith) r s n (and_xor_listed r.table (or_false (is_and r.table || is_xor r.table) (owned and_xor_ownership r s e)))
+
+pub majority_codable : Codable majority_ownership majority_coder
+majority_codable r s n e =
+    coded 3 majority_tables (omega arith) r s n (majority_listed r.table (drop_middle (is_and r.table) (is_majority r.table) (owned majority_ownership r s e)))
+
+pub every_codable : Codable table_ownership every_coder
+every_codable r s n e = refl
+
+-- ---- lawful rows
+
+shaped : (r : Row) → Normal r → 0 < r.nodes.b.number → Shaped r
+shaped r n two = record {
+  fits = n.fits;
+  used_a = (n.ascending_b two).0;
+  used_b = two;
+  used_c = λ h. (n.ascending_d h).0;
+  exact_a = n.exact V0;
+  exact_b = n.exact V1;
+  exact_c = n.exact V2;
+  exact_d = n.exact V3;
+  zero = n.zero;
+}
+
+pub normal_table : (r : Row) → Normal r → 0 < r.nodes.b.number → NormalTable r.table
+normal_table r n two = shaped_table r (shaped r n two)
+
+lawful_coded : (o : Ownership) (k : Coder) → Codable o k → (r : Row) → LawfulRow o 1024 r → k.codes r ≡ true
+lawful_coded o k c r l =
+    c r (shaped r l.shape l.two) (record { near_a = l.earlier V0; near_b = l.earlier V1; near_c = l.earlier V2; near_d = l.earlier V3 }) l.owned
+
 pub and_owned : (r : Row) → LawfulRow and_ownership 1024 r → (near_coder 2 and_tables).codes r ≡ true
-and_owned r l = coded 2 and_tables (omega arith) and_ownership r l (and_listed r.table (or_false (is_and r.table) (or_false _ (owned and_ownership r l))))
+and_owned = lawful_coded and_ownership and_coder and_codable
 
 pub and_xor_owned : (r : Row) → LawfulRow and_xor_ownership 1024 r → (near_coder 2 and_xor_tables).codes r ≡ true
-and_xor_owned r l =
-    coded 2 and_xor_tables (omega arith) and_xor_ownership r l
-    (and_xor_listed r.table (or_false (is_and r.table || is_xor r.table) (owned and_xor_ownership r l)))
+and_xor_owned = lawful_coded and_xor_ownership and_xor_coder and_xor_codable
 
 pub majority_owned : (r : Row) → LawfulRow majority_ownership 1024 r → (near_coder 3 majority_tables).codes r ≡ true
-majority_owned r l =
-    coded 3 majority_tables (omega arith) majority_ownership r l
-    (majority_listed r.table (drop_middle (is_and r.table) (is_majority r.table) (owned majority_ownership r l)))
+majority_owned = lawful_coded majority_ownership majority_coder majority_codable

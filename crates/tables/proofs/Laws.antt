@@ -75,6 +75,14 @@ is_table_of f g a e = sym (table_of-value f a) ∙ table_of_same (value f) g e
 pub index_lt : (x : Setting) → index x < 16
 index_lt = every_setting (λ x. index x < 16) (lit< tt) (lit< tt) (lit< tt) (lit< tt) (lit< tt) (lit< tt) (lit< tt) (lit< tt) (lit< tt) (lit< tt) (lit< tt) (lit< tt) (lit< tt) (lit< tt) (lit< tt) (lit< tt)
 
+pub value-and : (f h : ℕ) (x : Setting) → value (bit_and f h) x ≡ (value f x && value h x)
+unfolding value
+value-and f h x = bit-and f h (index x)
+
+pub value-or : (f h : ℕ) (x : Setting) → value (bit_or f h) x ≡ (value f x || value h x)
+unfolding value
+value-or f h x = bit-or f h (index x)
+
 pub value_not : (f : ℕ) (x : Setting) → f < 65536 → value (65535 - f) x ≡ not (value f x)
 unfolding value
 value_not f x h = bit_not 16 f (index x) h (index_lt x)
@@ -231,6 +239,10 @@ composed_code f p q r s t h e =
 pub value-composed : (f p q r s : ℕ) (x : Setting) → value (composed f p q r s) x ≡ value f (record { a = value p x; b = value q x; c = value r x; d = value s x })
 unfolding composed
 value-composed f p q r s x = value-table_of (λ y. value f (record { a = value p y; b = value q y; c = value r y; d = value s y })) x
+
+pub composed_lt : (f p q r s : ℕ) → composed f p q r s < 65536
+unfolding composed
+composed_lt f p q r s = table_of_lt (λ y. value f (record { a = value p y; b = value q y; c = value r y; d = value s y }))
 
 pub complement_lt : (f : ℕ) → complement f < 65536
 unfolding complement

@@ -100,6 +100,18 @@ exchanged_twice x =
     every_variable_lem (λ j. (k : Variable) → exchanged (exchanged x j k) j k ≡ x)
     (every_variable_lem _ refl refl refl refl) (every_variable_lem _ refl refl refl refl) (every_variable_lem _ refl refl refl refl) (every_variable_lem _ refl refl refl refl)
 
+pub get-exchanged : (x : Setting) (j k v : Variable) → get (exchanged x j k) v ≡ get x (swap_variable j k v)
+get-exchanged x =
+    every_variable_lem (λ j. (k v : Variable) → get (exchanged x j k) v ≡ get x (swap_variable j k v))
+    (every_variable_lem (λ k. (v : Variable) → get (exchanged x V0 k) v ≡ get x (swap_variable V0 k v))
+    (every_variable_lem _ refl refl refl refl) (every_variable_lem _ refl refl refl refl) (every_variable_lem _ refl refl refl refl) (every_variable_lem _ refl refl refl refl))
+    (every_variable_lem (λ k. (v : Variable) → get (exchanged x V1 k) v ≡ get x (swap_variable V1 k v))
+    (every_variable_lem _ refl refl refl refl) (every_variable_lem _ refl refl refl refl) (every_variable_lem _ refl refl refl refl) (every_variable_lem _ refl refl refl refl))
+    (every_variable_lem (λ k. (v : Variable) → get (exchanged x V2 k) v ≡ get x (swap_variable V2 k v))
+    (every_variable_lem _ refl refl refl refl) (every_variable_lem _ refl refl refl refl) (every_variable_lem _ refl refl refl refl) (every_variable_lem _ refl refl refl refl))
+    (every_variable_lem (λ k. (v : Variable) → get (exchanged x V3 k) v ≡ get x (swap_variable V3 k v))
+    (every_variable_lem _ refl refl refl refl) (every_variable_lem _ refl refl refl refl) (every_variable_lem _ refl refl refl refl) (every_variable_lem _ refl refl refl refl))
+
 pub exchanged-put : (x : Setting) (t : Bool) (j k v : Variable) → exchanged (put x v t) j k ≡ put (exchanged x j k) (swap_variable j k v) t
 exchanged-put x t =
     every_variable_lem (λ j. (k v : Variable) → exchanged (put x v t) j k ≡ put (exchanged x j k) (swap_variable j k v) t)
@@ -175,6 +187,10 @@ depends_free f v e x t = any f v x (ends f v e x) t (get x v) ∙ ap (value f) (
 
 pub free_same : (f g : ℕ) (v : Variable) → ((x : Setting) → value g x ≡ value f x) → Free f v → Free g v
 free_same f g v e h x t = e (put x v t) ∙ h x t ∙ sym (e x)
+
+-- where f does not depend on v, its cofactors are f itself
+pub free_cofactor : (f : ℕ) (v : Variable) (t : Bool) → f < 65536 → Free f v → cofactor f v t ≡ f
+free_cofactor f v t l h = same_values (cofactor f v t) f (cofactor_lt f v t) l (λ x. value-cofactor f v t x ∙ h x t)
 
 pub cofactor_own : (f : ℕ) (v : Variable) (s : Bool) → Free (cofactor f v s) v
 cofactor_own f v s x t = value-cofactor f v s (put x v t) ∙ ap (value f) (put-put x v t s) ∙ sym (value-cofactor f v s x)

@@ -4,7 +4,7 @@ use Rattle.std.proofs.lemmas.Bool.{ltb-true, and_from}
 use Rattle.std.proofs.lemmas.List.{get_or-map}
 use Rattle.tables.specs.declared.Variable.{Variable}
 use Rattle.tables.specs.declared.Variable.TheVariants.{V0, V1, V2, V3}
-use Rattle.tables.specs.Settings.{same_variable}
+use Rattle.tables.specs.Settings.{same_variable, variable_number}
 use Rattle.tables.proofs.Every.{both, both_left, both_right, every}
 use Rattle.tables.proofs.Every as all
 use Rattle.transforms.specs.declared.Order.{Order}
@@ -13,6 +13,13 @@ use Rattle.transforms.specs.declared.TheConstants.{ORDERS}
 use Rattle.transforms.specs.Orders.{numbered, order_with, at, IsOrder, position_in, orders, order_at}
 use Rattle.transforms.specs.Orders as spec
 use Rattle.transforms.proofs.Variables.{same_bool, truth, same_bool_lem, implies, implied, same_variable_lem, variable_same, every_variable, at-variable}
+
+-- a variable is the one of its number
+pub numbered-number_of : (v : Variable) → numbered (variable_number v) ≡ v
+numbered-number_of V0 = refl
+numbered-number_of V1 = refl
+numbered-number_of V2 = refl
+numbered-number_of V3 = refl
 
 -- the order with these variables
 abbrev pub order_by : (Variable → Variable) → Order

@@ -1,5 +1,5 @@
 -- Images of images, and back: the transforms are a group.
-use Rattle.std.proofs.Common.{◌≡◌, ℕ, ◌+◌, ◌*◌, ◌/◌, ◌%◌, ◌<◌, ◌≤◌, Bool, true, false, cond, not, T, leb, [], ◌∷◌, sym, refl, ap, ◌∙◌, subst, ap₂, zero-add, arith}
+use Rattle.std.proofs.Common.{◌≡◌, ℕ, zero, suc, ◌+◌, ◌*◌, ◌/◌, ◌%◌, ◌<◌, ◌≤◌, Bool, true, false, cond, not, T, leb, List, [], ◌∷◌, length, get_or, sym, refl, ap, ◌∙◌, subst, ap₂, le_of_suc-le-suc, not-suc-le-zero, add-zero, add-suc, suc-add, zero-add, arith}
 use Rattle.std.proofs.lemmas.Bool.{le-leb, lt-leb}
 use Rattle.tables.specs.declared.Variable.{Variable}
 use Rattle.tables.specs.declared.Variable.TheVariants.{V0, V1, V2, V3}
@@ -252,3 +252,16 @@ plain_number q m h l = ap transform_at (sym (zero-add (16 * q + m))) ∙ at_numb
 pub flipped_to : (r s f q m n : ℕ) (k v : Variable) → q < 24 → r ≡ image (record { output = false; order = order_at q; mask = m }) f → v ≡ at (order_at q) k → s ≡ flipped r v
     → Toggled m n k → s ≡ image (record { output = false; order = order_at q; mask = n }) f
 flipped_to r s f q m n k v h a b c t = c ∙ ap₂ flipped a b ∙ flip_mask false q m n k f h t
+
+-- each element of a list is g at its place, counted from j
+abbrev pub AllFrom : (ℕ → ℕ) → ℕ → List ℕ → Type 0
+AllFrom g j [] = Unit {0}
+AllFrom g j (x ∷ xs) = (x ≡ g j) × AllFrom g (suc j) xs
+
+from : (g : ℕ → ℕ) (j : ℕ) (xs : List ℕ) → AllFrom g j xs → (m : ℕ) → m < length xs → get_or xs m 0 ≡ g (j + m)
+from g j [] a m h = absurd (not-suc-le-zero h)
+from g j (x ∷ xs) a zero h = a.0 ∙ ap g (sym (add-zero j))
+from g j (x ∷ xs) a (suc m) h = from g (suc j) xs a.1 m (le_of_suc-le-suc h) ∙ ap g (suc-add j m ∙ sym (add-suc j m))
+
+pub at-index_from : (g : ℕ → ℕ) (xs : List ℕ) → AllFrom g 0 xs → (m : ℕ) → m < length xs → get_or xs m 0 ≡ g m
+at-index_from g xs a m h = from g 0 xs a m h ∙ ap g (zero-add m)
