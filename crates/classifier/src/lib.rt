@@ -36,7 +36,7 @@ fn order_images(f: Table, q: usize) -> [Table; 16]
     requires { q < 24 }
     ensures { AreImages f q 16 result }
 {
-    let plain = Transform::plain(q);
+    let plain = Transform::nth(16 * q);
     let order = plain.order();
     let one = [plain.image_of(f); 16];
     let two = flip_more(one, 1, order.at(Variable::V0));

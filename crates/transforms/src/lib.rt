@@ -1,7 +1,7 @@
 // The 768 transforms of tables of four variables, and the images that they give.
 #![tactic(auto)]
 
-ghost use Rattle.std.specs.Prelude.{◌≡◌, ◌<◌, ◌*◌, ◌%◌};
+ghost use Rattle.std.specs.Prelude.{◌≡◌, ◌<◌};
 ghost use Rattle.tables.specs.Bits.{bit, inverted};
 ghost use Rattle.tables.specs.Settings.{Setting, variables, same_variable};
 ghost use Rattle.std.specs.List.{find};
@@ -132,19 +132,6 @@ impl Transform {
             output: n >= 384,
             order: nth_order(n % 384 / 16),
             mask: (n % 16) as u8,
-        }
-    }
-
-    /// The transform of order number `q` that inverts nothing; past the last order they begin again.
-    // The class search takes one for each order: `nth(16 * q)` is the same and divides, at a sixth of the search's time.
-    pub fn plain(q: usize) -> Transform
-        ensures number { result ≡ transform_at (16 * (q % 24)) }
-        ensures order { IsOrder result.order }
-    {
-        Transform {
-            output: false,
-            order: nth_order(q % 24),
-            mask: 0,
         }
     }
 
