@@ -200,7 +200,7 @@ flip_mask o q m n k f h e =
 -- ---- the code's steps
 
 -- a composition with the four inputs as the transform gives them
-image-composed : (t : Transform) (f p q r s : ℕ)
+pub image-composed : (t : Transform) (f p q r s : ℕ)
     → ((x : Setting) → value p x ≡ read_from t x V0) → ((x : Setting) → value q x ≡ read_from t x V1)
     → ((x : Setting) → value r x ≡ read_from t x V2) → ((x : Setting) → value s x ≡ read_from t x V3)
     → (x : Setting) → inverted t.output (value (composed f p q r s) x) ≡ value (image t f) x
