@@ -2,7 +2,7 @@
 use Rattle.std.proofs.Common.{◌≡◌, ℕ, zero, suc, ◌<◌, Bool, true, false, ◌||◌, T, eqb, ltb, List, [], ◌∷◌, length, get_or, Decides, sym, refl, ap, ◌∙◌, subst, suc-le-suc, le_of_suc-le-suc, not-suc-le-zero, zero-lt-suc, lit<}
 use Rattle.std.specs.List.{ContainsAt as Has}
 use Rattle.std.proofs.lemmas.List.{get_or_default}
-use Rattle.std.proofs.lemmas.Bool.{eq-eqb, eqb-true, eqb-false, or_left, or_right, both_ways}
+use Rattle.std.proofs.lemmas.Bool.{eq-eqb, ne_eqb, eqb-true, eqb-false, or_left, or_right, both_ways}
 use Rattle.tables.proofs.Every.{both, both_left, both_right}
 use Rattle.tables.specs.Lists.{member}
 use Rattle.tables.specs.Bits.{bit, from_bits}
@@ -18,10 +18,10 @@ use Rattle.classes.specs.Members.{insert, ascending, tables_of}
 
 -- ---- where a member stands
 
-record Index (f : ℕ) (xs : List ℕ) : Type 0 where
-  at : ℕ
-  inside : at < length xs
-  is : get_or xs at 0 ≡ f
+pub record Index (f : ℕ) (xs : List ℕ) : Type 0 where
+  pub at : ℕ
+  pub inside : at < length xs
+  pub is : get_or xs at 0 ≡ f
 
 first-or_later : (f x : ℕ) (xs : List ℕ) (b : Bool) → eqb f x ≡ b → (b || member f xs) ≡ true → (member f xs ≡ true → Index f xs) → Index f (x ∷ xs)
 first-or_later f x xs true t e p = record { at = 0; inside = zero-lt-suc (length xs); is = sym (eqb-true f x t) }
@@ -49,6 +49,16 @@ contained xs f b d = decide b (member f xs) refl refl
         let i = index_of f xs q in
         sym p ∙ d.1 (i.at, i.inside, λ e. get_or_default xs i.at e 0 i.inside ∙ i.is)
     decide false false p q = refl
+
+-- a search is right here, or in what is left
+pub member_here : (f g : ℕ) (xs : List ℕ) → g ≡ f → true ≡ member f (g ∷ xs)
+member_here f g xs e = ap (λ (b : Bool). b || member f xs) (sym (eq-eqb f g (sym e)))
+
+pub member_past : (f g : ℕ) (xs : List ℕ) → (g ≡ f → ⊥) → member f (g ∷ xs) ≡ member f xs
+member_past f g xs e = ap (λ (b : Bool). b || member f xs) (ne_eqb f g (λ p. e (sym p)))
+
+pub member-none : (f : ℕ) → member f [] ≡ false
+member-none f = refl
 
 -- ---- an ascending list has the same members
 

@@ -110,14 +110,14 @@ module _ {C : Type 0} {W : ℕ} {c : Ghosts C W} {most : ℕ} where
   -- ---- output
 
   module _ (s : Store C W c) (i : ℕ) (o p : FixedList Signal most) (x : Signal) (there : is_there (netlist_in s i o) x.node ≡ true) (m : most ≡ 32) where
-    added : (length (listed o) < most) × (listed p ≡ listed o ++ x ∷ []) → after_output (netlist_in s i o) x ≡ Ok (netlist_in s i p)
+    pub added : (length (listed o) < most) × (listed p ≡ listed o ++ x ∷ []) → after_output (netlist_in s i o) x ≡ Ok (netlist_in s i p)
     added a =
         let l = a.0 in
         let b = output_few (netlist_in s i o) x there (omega arith) in
         let e = a.1 in
         cc
 
-    over : length (listed o) ≡ most → after_output (netlist_in s i o) x ≡ Err TooManyOutputs
+    pub over : length (listed o) ≡ most → after_output (netlist_in s i o) x ≡ Err TooManyOutputs
     over e = output_many (netlist_in s i o) x there (omega arith)
 
     pub output_still : LawfulIn s i o → (a : Result (Unit {0}) Full) → Added o p x a → LawfulIn s i p

@@ -44,7 +44,7 @@ module _ {C : Type 0} {W : ℕ} {c : Ghosts C W} where
   nowhere : (s : Store C W c) (r : Row) → Absent (rows_of s) (length (rows_of s)) r → (j : ℕ) → j < length (rows_of s) → get_or (rows_of s) j no_row ≡ r → ⊥
   nowhere s r a j h e = absent_get_or (rows_of s) (length (rows_of s)) r no_row a j h h e
 
-  kept_added : (s t : Store C W c) (r : Row) (k : ℕ) → Absent (rows_of s) (length (rows_of s)) r → k ≡ length (rows_of s) → Pushed s t r → RowKept s t r k
+  pub kept_added : (s t : Store C W c) (r : Row) (k : ℕ) → Absent (rows_of s) (length (rows_of s)) r → k ≡ length (rows_of s) → Pushed s t r → RowKept s t r k
   kept_added s t r k a e p =
       let m = rows_most t in
       let g = p.alike.places in
@@ -59,7 +59,7 @@ module _ {C : Type 0} {W : ℕ} {c : Ghosts C W} where
             cc;
       }
 
-  kept_refused : (s t : Store C W c) (r : Row) → Absent (rows_of s) (length (rows_of s)) r → length (rows_of s) ≡ s.places → t ≡ s → RowRefused s t r NoPlace
+  pub kept_refused : (s t : Store C W c) (r : Row) → Absent (rows_of s) (length (rows_of s)) r → length (rows_of s) ≡ s.places → t ≡ s → RowRefused s t r NoPlace
   kept_refused s t r a e q = record { same = q; refused = λ i os v. row_full s.places (holding s i os) r v (nowhere s r a) (omega arith) }
 
   -- a new row, where `Full` is answered as a refusal

@@ -18,6 +18,9 @@ use Rattle.netlists.proofs.Steps.{with_node_same, grounded_by, unified_by, order
 abbrev number_at : Row → Variable → ℕ
 number_at r v = (node_at r v).number
 
+pub node_at-with_table : (r : Row) (f : ℕ) (v : Variable) → node_at (with_table r f) v ≡ node_at r v
+node_at-with_table r f v = refl
+
 pub node_at-with_node : (r : Row) (v : Variable) (n : Node) → node_at (with_node r v n) v ≡ n
 node_at-with_node r V0 n = refl
 node_at-with_node r V1 n = refl

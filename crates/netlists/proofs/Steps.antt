@@ -33,6 +33,9 @@ setting-with_node φ r V3 n = refl
 pub row_with_node : (φ : Assignment) (r : Row) (v : Variable) (n : Node) → row_under φ (with_node r v n) ≡ value r.table (put (setting_under φ r) v (φ n.number))
 row_with_node φ r v n = ap (value r.table) (setting-with_node φ r v n)
 
+pub table_with_node : (r : Row) (v : Variable) (n : Node) → (with_node r v n).table ≡ r.table
+table_with_node r v n = refl
+
 pub with_node_same : (r : Row) (v : Variable) → with_node r v (node_at r v) ≡ r
 with_node_same r V0 = refl
 with_node_same r V1 = refl

@@ -1,13 +1,14 @@
 -- The steps of a copy, over plain lists.
-use Rattle.std.proofs.Common.{◌≡◌, ℕ, ◌+◌, ◌<◌, ◌≤◌, Bool, true, false, List, [], ◌∷◌, ◌++◌, map, length, get_or, drop, Ok, Err, Result, sym, refl, ap, ◌∙◌, subst, ap₂, arith}
+use Rattle.std.proofs.Common.{◌≡◌, ℕ, ◌+◌, ◌<◌, ◌≤◌, Bool, true, false, List, [], ◌∷◌, ◌++◌, map, length, get_or, take, drop, Ok, Err, Result, sym, refl, ap, ◌∙◌, subst, ap₂, arith}
 use Rattle.std.specs.List.{range_with_len, slice_get}
 use Rattle.std.specs.Option.{unwrap_or}
 use Rattle.std.specs.Result.{IsErrAnd}
 use Rattle.std.proofs.lemmas.Result.{err_from_is_err_and}
 use Rattle.std.proofs.lemmas.Option.{unwrap_or-slice_get}
-use Rattle.std.proofs.lemmas.List.{drop_more, length_push}
+use Rattle.std.proofs.lemmas.List.{drop_more, length_push, get_or_past, length-take-le}
 use Rattle.std.proofs.lemmas.List.FromFn.{map-range_with_len_more, length-map-range_with_len}
 use Rattle.classes.specs.declared.Ownership.{Ownership}
+use Rattle.netlists.specs.declared.Node.{Node}
 use Rattle.netlists.specs.declared.Signal.{Signal}
 use Rattle.netlists.specs.declared.Row.{Row}
 use Rattle.tables.specs.declared.per_variable.PerVariable.{PerVariable}
@@ -22,6 +23,16 @@ use Rattle.networks.specs.Copying.{Due, Tells, under}
 
 abbrev pub plain : ℕ → Signal
 plain n = signal_of (record { number = n }) false
+
+pub is_plain : (s : Signal) (n : Node) (k : ℕ) → s.node ≡ n → n.number ≡ k → s.inverted ≡ false → s ≡ plain k
+is_plain s n k a b c =
+    ap₂ (λ (x : Node) (i : Bool). record { node = x; inverted = i }) (a ∙ ap (λ (m : ℕ). record { number = m }) b) c
+
+pub is_no_signal : (s : Signal) (n : Node) → s.node ≡ n → n.number ≡ 0 → s.inverted ≡ false → s ≡ no_signal
+is_no_signal s n a b c = is_plain s n 0 a b c
+
+pub signal_past : (ss : List Signal) (made k : ℕ) → made ≤ length ss → made ≤ k → get_or (take made ss) k no_signal ≡ no_signal
+signal_past ss made k h l = get_or_past (take made ss) k no_signal (subst (λ (x : ℕ). x ≤ k) (sym (length-take-le made ss h)) l)
 
 pub found : (ss : List Signal) (k : ℕ) → unwrap_or (slice_get ss k) no_signal ≡ get_or ss k no_signal
 found ss k = unwrap_or-slice_get ss k no_signal
@@ -62,6 +73,10 @@ module _ (o : Ownership) (places : ℕ) (keep : ℕ → Bool) (r : Row) (n : Net
 
 pub never {ℓ} : {A : Type 0} {C : Type ℓ} (x : A) (e : Refusal) (r : Result A Refusal) → r ≡ Ok x → r ≡ Err e → C
 never x e r p q = let z : ◌≡◌ {A = ℕ} 0 1 = cc in absurd (omega arith)
+
+pub due_same : {A B : Type 0} (x y : Result A Refusal) (r : Result B Refusal) (z : A) → x ≡ y → Due y r z → Due x r z
+due_same x y (Ok u) z e h = e ∙ h
+due_same x y (Err u) z e h = e ∙ h
 
 -- the exit of a `?`
 pub err_due : {A B : Type 0} (due : Result A Refusal) (r : Result B Refusal) (x : A) (e : Refusal) → IsErrAnd r (λ y. y ≡ e) → due ≡ Err e → Due due r x

@@ -1,6 +1,6 @@
 -- A copy depends on which nodes are kept, and not on how that is told. Copies and sweeps of whole netlists, and how many
 -- rows they keep.
-use Rattle.std.proofs.Common.{◌≡◌, ℕ, zero, suc, ◌+◌, ◌<◌, ◌≤◌, Bool, true, false, cond, List, [], ◌∷◌, map, length, Ok, Err, Result, sym, refl, ap, ◌∙◌, subst, ap₂, add-one, arith, MatchResult}
+use Rattle.std.proofs.Common.{◌≡◌, ℕ, zero, suc, ◌+◌, ◌<◌, ◌≤◌, Bool, true, false, cond, List, [], ◌∷◌, map, length, Ok, Err, Result, sym, refl, ap, ◌∙◌, subst, ap₂, add-zero, add-one, arith, MatchResult}
 use Rattle.std.specs.List.{range_with_len, count_by, sum_by}
 use Rattle.std.proofs.lemmas.List.{map-id}
 use Rattle.std.proofs.lemmas.List.FromFn.{sum_by-map-range_with_len_more}
@@ -62,7 +62,13 @@ pub before_same : (keep kept : ℕ → Bool) → ((m : ℕ) → keep m ≡ kept 
 before_same keep kept h i zero = refl
 before_same keep kept h i (suc k) = ap₂ (λ (x : ℕ) (b : Bool). x + cond b 1 0) (before_same keep kept h i k) (h (i + 1 + k))
 
--- the same, counted over the nodes of the rows
+pub before_hit : (keep : ℕ → Bool) (i a k : ℕ) → a ≡ i + 1 + k → keep a ≡ true → kept_before keep i (k + 1) ≡ kept_before keep i k + 1
+before_hit keep i a k e h = ap (kept_before keep i) (add-one k) ∙ ap (λ (b : Bool). kept_before keep i k + cond b 1 0) (ap keep (sym e) ∙ h)
+
+pub before_miss : (keep : ℕ → Bool) (i a k : ℕ) → a ≡ i + 1 + k → keep a ≡ false → kept_before keep i (k + 1) ≡ kept_before keep i k
+before_miss keep i a k e h = ap (kept_before keep i) (add-one k) ∙ ap (λ (b : Bool). kept_before keep i k + cond b 1 0) (ap keep (sym e) ∙ h) ∙ add-zero (kept_before keep i k)
+
+-- the rows that are kept, counted over their nodes
 pub before_counts : (keep : ℕ → Bool) (i k : ℕ) → count_by keep (range_with_len (i + 1) k) ≡ kept_before keep i k
 before_counts keep i k = ap (sum_by one) (sym (map-id (range_with_len (i + 1) k))) ∙ counted k
   where

@@ -19,6 +19,23 @@ block_fits width l i h =
     let d = mul-add width i 1 in
     omega arith
 
+pub blocks_apart : (width i n : ℕ) → i < n → width * i + width ≤ width * n
+blocks_apart width i n h =
+    let k : i + 1 ≤ n = omega arith in
+    let a = mul-le-mul_left width k in
+    let d = mul-add width i 1 in
+    omega arith
+
+pub blocks_fit : (width l n : ℕ) → n ≤ places_in width l → width * n ≤ l
+unfolding places_in
+blocks_fit width l n h =
+    let m = min-le_left (l / width) 544 in
+    let k : n ≤ l / width = omega arith in
+    let a = mul-le-mul_left width k in
+    let b = div-mul-le_self l width in
+    let c = mul_comm (l / width) width in
+    omega arith
+
 pub few_blocks : (width l n : ℕ) → n ≤ places_in width l → n ≤ l / width
 unfolding places_in
 few_blocks width l n h = let m = min-le_left (l / width) 544 in omega arith

@@ -69,7 +69,7 @@ module _ {C : Type 0} {W : ℕ} {c : Ghosts C W} where
       MatchOption o (AllWithin (λ b. b ≡ key → ⊥) (blocks W (words_of s) s.count) 0 (length (blocks W (words_of s) s.count)))
       (λ i. (i < length (blocks W (words_of s) s.count)) × HoldsAt (λ b. b ≡ key) (blocks W (words_of s) s.count) i × AllWithin (λ b. b ≡ key → ⊥) (blocks W (words_of s) s.count) 0 i)
 
-  absent : (s : Store C W c) (r : Row) (n : ℕ) → AllWithin (λ b. b ≡ c.coder.encode r → ⊥) (blocks W (words_of s) s.count) 0 n → Absent (rows_of s) n r
+  pub absent : (s : Store C W c) (r : Row) (n : ℕ) → AllWithin (λ b. b ≡ c.coder.encode r → ⊥) (blocks W (words_of s) s.count) 0 n → Absent (rows_of s) n r
   absent s r n f j h e = f j [] (omega arith) h (get_or_from_slice_get (blocks W (words_of s) s.count) j (c.coder.encode r) [] (block_of_row s j r e))
 
   pub found : (s : Store C W c) (o : Option ℕ) (r : Row) → Lawful W c.coder → c.coder.codes r ≡ true → Finding s o (c.coder.encode r)
@@ -104,7 +104,7 @@ module _ {C : Type 0} {W : ℕ} {c : Ghosts C W} where
     unfolding blocks
     pushed_blocks = w.blocks
 
-    pushed_rows : rows_in c.coder W vs (s.count + 1) ≡ rows_of s ++ r ∷ []
+    pub pushed_rows : rows_in c.coder W vs (s.count + 1) ≡ rows_of s ++ r ∷ []
     pushed_rows =
         ap (map c.coder.decode) pushed_blocks ∙ map_push c.coder.decode (blocks W (words_of s) s.count) (c.coder.encode r)
         ∙ ap (λ (x : Row). rows_of s ++ x ∷ []) (law.back r codes)

@@ -7,7 +7,7 @@ use Rattle.tables.specs.Bits.{bit, from_bits, inverted}
 use Rattle.tables.specs.Settings.{Setting, get, put, same_variable}
 use Rattle.tables.specs.Tables.{value, flipped, complement, composed}
 use Rattle.tables.proofs.Bitwise.{bit-from_bits, from_bits_lt}
-use Rattle.tables.proofs.Laws.{value-table_of, table_of_lt, value-flipped, value-complement, value-composed, flipped_lt, complement_lt, same_values}
+use Rattle.tables.proofs.Laws.{value-table_of, table_of_lt, value-flipped, value-complement, value-composed, flipped_lt, complement_lt, composed_lt, same_values}
 use Rattle.transforms.specs.declared.Order.{Order}
 use Rattle.transforms.specs.declared.Transform.{Transform}
 use Rattle.transforms.specs.Orders.{at, IsOrder, position_in, order_at, orders}
@@ -200,7 +200,7 @@ flip_mask o q m n k f h e =
 -- ---- the code's steps
 
 -- a composition with the four inputs as the transform gives them
-image-composed : (t : Transform) (f p q r s : ℕ)
+pub image-composed : (t : Transform) (f p q r s : ℕ)
     → ((x : Setting) → value p x ≡ read_from t x V0) → ((x : Setting) → value q x ≡ read_from t x V1)
     → ((x : Setting) → value r x ≡ read_from t x V2) → ((x : Setting) → value s x ≡ read_from t x V3)
     → (x : Setting) → inverted t.output (value (composed f p q r s) x) ≡ value (image t f) x
@@ -220,6 +220,22 @@ pub image_code : (t : Transform) (f p q r s g : ℕ) → g < 65536
     → ((x : Setting) → value r x ≡ read_from t x V2) → ((x : Setting) → value s x ≡ read_from t x V3)
     → ((x : Setting) → value g x ≡ inverted t.output (value (composed f p q r s) x)) → g ≡ image t f
 image_code t f p q r s g h a b c d e = same_values g (image t f) h (image_lt t f) (λ x. e x ∙ image-composed t f p q r s a b c d x)
+
+pub image_plain : (t : Transform) (f p q r s : ℕ) → t.output ≡ false
+    → ((x : Setting) → value p x ≡ read_from t x V0) → ((x : Setting) → value q x ≡ read_from t x V1)
+    → ((x : Setting) → value r x ≡ read_from t x V2) → ((x : Setting) → value s x ≡ read_from t x V3)
+    → composed f p q r s ≡ image t f
+image_plain t f p q r s o a b c d =
+    same_values (composed f p q r s) (image t f) (composed_lt f p q r s) (image_lt t f)
+    (λ x. ap (λ (i : Bool). inverted i (value (composed f p q r s) x)) (sym o) ∙ image-composed t f p q r s a b c d x)
+
+pub image-inverted : (t : Transform) (f p q r s : ℕ) → t.output ≡ true
+    → ((x : Setting) → value p x ≡ read_from t x V0) → ((x : Setting) → value q x ≡ read_from t x V1)
+    → ((x : Setting) → value r x ≡ read_from t x V2) → ((x : Setting) → value s x ≡ read_from t x V3)
+    → complement (composed f p q r s) ≡ image t f
+image-inverted t f p q r s o a b c d =
+    same_values (complement (composed f p q r s)) (image t f) (complement_lt (composed f p q r s)) (image_lt t f)
+    (λ x. value-complement (composed f p q r s) x ∙ ap (λ (i : Bool). inverted i (value (composed f p q r s) x)) (sym o) ∙ image-composed t f p q r s a b c d x)
 
 halves : (n : ℕ) → n < 384 → (f : ℕ) (x : Setting) → inverted (transform_at (384 + n)).output (value f (read_at (transform_at (384 + n)) x)) ≡ not (inverted (transform_at n).output (value f (read_at (transform_at n) x)))
 unfolding transform_at
