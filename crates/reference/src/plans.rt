@@ -3,7 +3,7 @@ ghost use Rattle.std.specs.Prelude.{◌≡◌, ◌↔◌, true, IfOk, IsNone};
 ghost use Rattle.reference.specs.Classes.{class_in};
 ghost use Rattle.reference.specs.Plans.{invert_if};
 
-use crate::classes::{Atlas, Owned, Transform};
+use crate::classes::{Atlas, Class, Owned, Transform};
 use crate::tables::{Variable, fixed, is_used, setting_of, table_of, value_at};
 use std::alloc::{AllocError, Global};
 
@@ -12,6 +12,9 @@ const AND: u16 = 0x8888;
 const OR: u16 = 0xEEEE;
 
 const XOR: u16 = 0x6666;
+
+/// No plan is longer.
+pub const MOST_LINES: usize = 21;
 
 /// Where a literal comes from.
 #[derive(Clone, Copy, PartialEq, Eq)]
@@ -216,7 +219,7 @@ impl Writer<'_> {
                 Literal::FALSE
             }
         });
-        let owned = self.own.every || (self.own.majority && self.atlas.number(h) == Some(831));
+        let owned = self.own.every || (self.own.majority && self.atlas.number(h) == 831);
         owned.then_some(Choice::OneLine(Line { table: h, literals }))
     }
 
@@ -277,8 +280,27 @@ fn input_of(transform: Transform, variable: Variable) -> Input {
     Input { variable, literal }
 }
 
-/// The plan of a table, by the first rule that fits its class and then the parts.
+/// The plan of the table that has this class, by the first rule that fits it and then its parts.
 pub fn write_plan(
+    heap: Global,
+    atlas: &Atlas,
+    own: Owned,
+    class: Class,
+) -> Result<Plan, AllocError> {
+    let transform = class.transform;
+    let writer = Writer {
+        atlas,
+        own,
+        inputs: Variable::ALL.map(|v| input_of(transform, v)),
+    };
+    let mut lines = Vec::new(heap);
+    let result = writer.write(class.representative, 5, &mut lines)?;
+    let result = result.invert_if(transform.output);
+    Ok(Plan { lines, result })
+}
+
+/// The plan of a table, by the class that the atlas has for it.
+pub fn write_plan_of(
     heap: Global,
     atlas: &Atlas,
     own: Owned,
@@ -289,16 +311,7 @@ pub fn write_plan(
     let Some(class) = atlas.class(f) else {
         return Ok(None);
     };
-    let transform = class.transform;
-    let writer = Writer {
-        atlas,
-        own,
-        inputs: Variable::ALL.map(|v| input_of(transform, v)),
-    };
-    let mut lines = Vec::new(heap);
-    let result = writer.write(class.representative, 5, &mut lines)?;
-    let result = result.invert_if(transform.output);
-    Ok(Some(Plan { lines, result }))
+    Ok(Some(write_plan(heap, atlas, own, class)?))
 }
 
 // The table of a literal over the four signals, after the tables of some lines.
