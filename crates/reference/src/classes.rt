@@ -1,9 +1,9 @@
 //! Transforms of tables, and classes by their definition: the least of all 768 images.
-ghost use Rattle.std.specs.Prelude.{◌≡◌, ◌↔◌, ◌%◌, ◌≤◌, [], length, map, bit_xor, Contains, IsNone, IfOk, IfSome};
+ghost use Rattle.std.specs.Prelude.{◌≡◌, ◌↔◌, ◌+◌, ◌*◌, ◌%◌, ◌<◌, ◌≤◌, [], length, map, bit_xor, Contains, IsNone, IfOk, IfSome};
 ghost use Rattle.std.specs.List.{range_with_len};
 ghost use Rattle.std.specs.Option.{option_map, option_map_or};
 ghost use Rattle.reference.specs.Tables.{bit};
-ghost use Rattle.reference.specs.Classes.{image, in_order, inverted, orders, transform_at, class_in, has, owned_at};
+ghost use Rattle.reference.specs.Classes.{image, in_order, inverted, orders, transform_at, IsFirstLeast, class_in, has, owned_at};
 
 use crate::tables::Variable::{V0, V1, V2, V3};
 use crate::tables::{Variable, setting_of, table_of, value_at};
@@ -98,6 +98,9 @@ pub fn list_transforms(heap: Global) -> Result<Vec<Transform>, AllocError>
     (0..768).map(nth_transform).collect(heap)
 }
 
+// The 768 transforms are 48 blocks of sixteen, which differ in the mask.
+const BLOCKS: u16 = 48;
+
 /// The least image of a table, and the first transform that gives it.
 #[derive(Clone, Copy, PartialEq, Eq)]
 pub struct Class {
@@ -106,6 +109,50 @@ pub struct Class {
 }
 
 impl Class {
+    /// The class of a table: the least of all 768 images, by the first transform that gives it.
+    pub fn of(f: u16) -> Class
+        ensures { IsFirstLeast f 768 result }
+    {
+        let first = nth_transform(0);
+        let mut least = Class {
+            representative: first.image_of(f),
+            transform: first,
+        };
+        for block in 0..BLOCKS {
+            least = least.after_masks(f, block);
+        }
+        least
+    }
+
+    // After the sixteen images of a block. The order stays, so what is read in it is not worked out for each of them.
+    fn after_masks(self, f: u16, block: u16) -> Class
+        requires { (block < 48) × IsFirstLeast f (block * 16) self }
+        ensures { IsFirstLeast f (block * 16 + 16) result }
+    {
+        let first = nth_transform(block * 16);
+        let mut least = self;
+        for mask in 0..16u16 {
+            let transform = Transform { mask, ..first };
+            least = least.or_less(Class {
+                representative: transform.image_of(f),
+                transform,
+            });
+        }
+        least
+    }
+
+    // The other, where its image is less.
+    fn or_less(self, other: Class) -> Class
+        ensures less { other.representative < self.representative → result ≡ other }
+        ensures kept { self.representative ≤ other.representative → result ≡ self }
+    {
+        if other.representative < self.representative {
+            other
+        } else {
+            self
+        }
+    }
+
     /// The class of a table by the images under these transforms.
     pub fn among(transforms: &[Transform], f: u16) -> Option<Class>
         ensures none { IsNone result ↔ (transforms.now ≡ []) }
@@ -125,7 +172,7 @@ impl Class {
 /// The classes of all tables.
 #[derive(Drop)]
 pub struct Atlas {
-    classes: Vec<Option<Class>>,
+    classes: Vec<Class>,
 }
 
 impl Atlas {
@@ -133,10 +180,7 @@ impl Atlas {
     pub fn new(heap: Global) -> Result<Atlas, AllocError>
         ensures { IfOk result (λ atlas. length atlas.classes.items ≡ 65536) }
     {
-        let transforms = list_transforms(heap)?;
-        let classes = (0..=u16::MAX)
-            .map(|f| Class::among(&transforms, f))
-            .collect(heap)?;
+        let classes = (0..=u16::MAX).map(Class::of).collect(heap)?;
         Ok(Atlas { classes })
     }
 
@@ -144,7 +188,7 @@ impl Atlas {
     pub fn class(&self, f: u16) -> Option<Class>
         ensures { result ≡ class_in self.now f }
     {
-        *self.classes.get(f as usize)?
+        self.classes.get(f as usize).copied()
     }
 
     /// The number of a table's class; the table itself where there is none.
