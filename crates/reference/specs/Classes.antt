@@ -1,6 +1,5 @@
 -- Transforms of tables, and their images.
-use Rattle.std.specs.Prelude.{ℕ, zero, suc, ◌/◌, ◌%◌, ◌==◌, Bool, true, false, not, List, [], ◌∷◌, map, bit_xor, nat_le, filter, slice_index_or, slice_get, Option, ◌||◌, ◌&&◌}
-use Rattle.std.specs.Option.{option_flatten}
+use Rattle.std.specs.Prelude.{◌≡◌, ℕ, zero, suc, ◌/◌, ◌%◌, ◌<◌, ◌≤◌, ◌==◌, Bool, true, false, not, List, [], ◌∷◌, map, bit_xor, nat_le, filter, slice_index_or, slice_get, Option, ◌||◌, ◌&&◌}
 use Rattle.std.specs.List.{range_with_len, list_all, list_any}
 use Rattle.reference.specs.declared.tables.Variable.{Variable}
 use Rattle.reference.specs.declared.tables.Variable.TheVariants.{V0, V1, V2, V3}
@@ -49,9 +48,18 @@ transform_at n = record { output = nat_le 384 n; order = slice_index_or orders (
 
 -- ---- classes and ownership
 
+-- c has the least of the first n images of f, by the first of the 768 transforms that gives it
+pub record IsFirstLeast (f n : ℕ) (c : Class) : Type 0 where
+  pub number : ℕ
+  pub small : number < 768
+  pub named : c.transform ≡ transform_at number
+  pub reached : c.representative ≡ image c.transform f
+  pub bound : (m : ℕ) → m < n → c.representative ≤ image (transform_at m) f
+  pub first : (m : ℕ) → m < number → c.representative < image (transform_at m) f
+
 -- the class of f, if the atlas has one
 abbrev pub class_in : Atlas → ℕ → Option Class
-class_in atlas f = option_flatten (slice_get atlas.classes.items f)
+class_in atlas f = slice_get atlas.classes.items f
 
 -- class 15 is owned; 4080 is exclusive-or, and 831 majority
 abbrev pub has : Owned → ℕ → Bool

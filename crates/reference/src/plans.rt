@@ -1,9 +1,10 @@
 //! Plans by the rules, line by line, and what a plan computes.
-ghost use Rattle.std.specs.Prelude.{◌≡◌, ◌↔◌, true, IfOk, IsNone};
+ghost use Rattle.std.specs.Prelude.{◌≡◌, ◌↔◌, ◌%◌, ◌<◌, true, map, IfOk, IsNone};
+ghost use Rattle.reference.specs.Tables.{bit, from_bits};
 ghost use Rattle.reference.specs.Classes.{class_in};
-ghost use Rattle.reference.specs.Plans.{invert_if};
+ghost use Rattle.reference.specs.Plans.{invert_if, source_table, literal_table, line_table, composed};
 
-use crate::classes::{Atlas, Owned, Transform};
+use crate::classes::{Atlas, Class, Owned, Transform};
 use crate::tables::{Variable, fixed, is_used, setting_of, table_of, value_at};
 use std::alloc::{AllocError, Global};
 
@@ -12,6 +13,9 @@ const AND: u16 = 0x8888;
 const OR: u16 = 0xEEEE;
 
 const XOR: u16 = 0x6666;
+
+/// No plan is longer.
+pub const MOST_LINES: usize = 21;
 
 /// Where a literal comes from.
 #[derive(Clone, Copy, PartialEq, Eq)]
@@ -216,7 +220,7 @@ impl Writer<'_> {
                 Literal::FALSE
             }
         });
-        let owned = self.own.every || (self.own.majority && self.atlas.number(h) == Some(831));
+        let owned = self.own.every || (self.own.majority && self.atlas.number(h) == 831);
         owned.then_some(Choice::OneLine(Line { table: h, literals }))
     }
 
@@ -277,8 +281,27 @@ fn input_of(transform: Transform, variable: Variable) -> Input {
     Input { variable, literal }
 }
 
-/// The plan of a table, by the first rule that fits its class and then the parts.
+/// The plan of the table that has this class, by the first rule that fits it and then its parts.
 pub fn write_plan(
+    heap: Global,
+    atlas: &Atlas,
+    own: Owned,
+    class: Class,
+) -> Result<Plan, AllocError> {
+    let transform = class.transform;
+    let writer = Writer {
+        atlas,
+        own,
+        inputs: Variable::ALL.map(|v| input_of(transform, v)),
+    };
+    let mut lines = Vec::new(heap);
+    let result = writer.write(class.representative, 5, &mut lines)?;
+    let result = result.invert_if(transform.output);
+    Ok(Plan { lines, result })
+}
+
+/// The plan of a table, by the class that the atlas has for it.
+pub fn write_plan_of(
     heap: Global,
     atlas: &Atlas,
     own: Owned,
@@ -289,38 +312,65 @@ pub fn write_plan(
     let Some(class) = atlas.class(f) else {
         return Ok(None);
     };
-    let transform = class.transform;
-    let writer = Writer {
-        atlas,
-        own,
-        inputs: Variable::ALL.map(|v| input_of(transform, v)),
-    };
-    let mut lines = Vec::new(heap);
-    let result = writer.write(class.representative, 5, &mut lines)?;
-    let result = result.invert_if(transform.output);
-    Ok(Some(Plan { lines, result }))
+    Ok(Some(write_plan(heap, atlas, own, class)?))
 }
 
-// The table of a literal over the four signals, after the tables of some lines.
-fn literal_table(literal: Literal, answers: &[u16]) -> Option<u16> {
-    let table = match literal.source {
-        Source::False => 0,
-        Source::Signal(v) => v.table(),
-        Source::Line(n) => *answers.get(n)?,
-    };
-    Some(if literal.inverted { !table } else { table })
+impl Source {
+    // Its table over the four signals, after the tables of some lines.
+    fn table(self, answers: &[u16]) -> Option<u16>
+        ensures { result ≡ source_table answers.now self }
+    {
+        match self {
+            Source::False => Some(0),
+            Source::Signal(v) => Some(v.table()),
+            Source::Line(n) => answers.get(n).copied(),
+        }
+    }
 }
 
-// The table of a line over the four signals, one setting at a time.
-fn line_table(line: Line, answers: &[u16]) -> Option<u16> {
-    let tables = line.literals.map(|literal| literal_table(literal, answers));
-    let [Some(a), Some(b), Some(c), Some(d)] = tables else {
-        return None;
-    };
-    Some(table_of(|x| {
-        let values = [a, b, c, d].map(|f| value_at(f, x));
-        value_at(line.table, setting_of(values))
-    }))
+impl Literal {
+    /// Its table over the four signals, after the tables of some lines; nothing where it reads a line that is not among them.
+    pub fn table(self, answers: &[u16]) -> Option<u16>
+        ensures { result ≡ literal_table answers.now self }
+    {
+        let table = self.source.table(answers)?;
+        Some(if self.inverted { !table } else { table })
+    }
+}
+
+impl Line {
+    /// Its table over the four signals, after the tables of the lines before it, one setting at a time.
+    pub fn answer(self, answers: &[u16]) -> Option<u16>
+        ensures { result ≡ line_table answers.now self }
+    {
+        let [a, b, c, d] = self.literals;
+        let inputs = [
+            a.table(answers)?,
+            b.table(answers)?,
+            c.table(answers)?,
+            d.table(answers)?,
+        ];
+        Some(compose(self.table, inputs))
+    }
+}
+
+// The setting of four tables' values at a setting.
+fn setting_at(inputs: [u16; 4], x: u16) -> u16
+    ensures number { result ≡ from_bits (map (λ g. bit g (x % 16)) inputs) }
+    ensures below { result < 16 }
+{
+    setting_of(inputs.map(|g| value_at(g, x)))
+}
+
+// At each setting, the value of a table at the values of four others.
+fn compose(f: u16, inputs: [u16; 4]) -> u16
+    ensures { result ≡ composed f inputs }
+{
+    table_of(
+        |x: u16| -> bool
+            ensures { x < 16 → result ≡ bit f (from_bits (map (λ g. bit g x) inputs)) }
+        { value_at(f, setting_at(inputs, x)) },
+    )
 }
 
 impl Plan {
@@ -328,11 +378,34 @@ impl Plan {
     pub fn table(&self, heap: Global) -> Result<Option<u16>, AllocError> {
         let mut answers = Vec::new(heap);
         for line in &self.lines {
-            let Some(table) = line_table(*line, &answers) else {
+            let Some(table) = line.answer(&answers) else {
                 return Ok(None);
             };
             answers.push(table)?;
         }
-        Ok(literal_table(self.result, &answers))
+        Ok(self.result.table(&answers))
+    }
+}
+
+#[cfg(test)]
+mod tests {
+    use super::*;
+    use std::test::Fail;
+
+    #[test]
+    fn writes_plans(rt: HostRuntime) -> Result<(), Fail> {
+        let heap = rt.alloc();
+        let atlas = Atlas::new(heap)?;
+        let own = Owned {
+            xor: false,
+            majority: false,
+            every: false,
+        };
+        let plan = write_plan(heap, &atlas, own, Class::of(0x8080))?;
+        assert_eq!(rt; plan.lines.len(), 2);
+        assert_eq!(rt; plan.table(heap)?, Some(0x8080));
+        let same = write_plan_of(heap, &atlas, own, 0x8080)?;
+        assert!(rt; same == Some(plan));
+        Ok(())
     }
 }

@@ -40,7 +40,8 @@ pub fn seen_class(class: Class) -> plain::classes::Class
     }
 }
 
-fn seen_literal(literal: Literal) -> plain::plans::Literal
+/// A literal.
+pub fn seen_literal(literal: Literal) -> plain::plans::Literal
     ensures { result ≡ seen_literal literal }
 {
     plain::plans::Literal {
@@ -53,7 +54,8 @@ fn seen_literal(literal: Literal) -> plain::plans::Literal
     }
 }
 
-fn seen_line(line: Line) -> plain::plans::Line
+/// A line.
+pub fn seen_line(line: Line) -> plain::plans::Line
     ensures { result ≡ seen_line line }
 {
     plain::plans::Line {

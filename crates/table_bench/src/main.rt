@@ -6,7 +6,7 @@
 use classes::Ownership;
 use classifier::classify;
 use plans::plan_table;
-use reference::classes::{Class, list_transforms};
+use reference::classes::Class;
 use std::rt::{Clock, Env};
 use std::time::Instant;
 use std::{env, io};
@@ -29,26 +29,27 @@ struct Bench<'a, R> {
 
 impl<R: Print + Clock> Bench<'_, R> {
     // Prints how many tables a second a calculation takes, and the sum of its answers, so that they are not calculated for nothing.
-    fn measure<F: Fn(Table) -> u64>(
-        &self,
-        name: &str,
-        tables: &[Table],
-        calculate: F,
-    ) -> io::Result<()>
+    // The tables go by a number, the last of which is given.
+    fn measure<F: Fn(u16) -> u64>(&self, name: &str, last: u16, calculate: F) -> io::Result<()>
         requires { F.IsAlwaysCallable calculate }
     {
         let start = Instant::now(self.rt)?;
         let mut sum: u64 = 0;
         for _ in 0..self.rounds {
-            for f in tables {
-                sum = sum.wrapping_add(calculate(*f));
+            for n in 0..=last {
+                sum = sum.wrapping_add(calculate(n));
             }
         }
         let seconds = start.elapsed(self.rt)?.as_secs_f64();
-        let count = (tables.len() as u64).wrapping_mul(u64::from(self.rounds));
+        let count = (u64::from(last) + 1).wrapping_mul(u64::from(self.rounds));
         let speed = std::num::nearest_u64_to_f64(count) / seconds;
         println!(self.rt; "{name}: {speed:.0} tables a second ({count} tables, sum {sum})")
     }
+}
+
+// Every 16th table, and among those each lowest digit as often: number `n` of the 4,096.
+fn sample(n: u16) -> Table {
+    n.wrapping_mul(16) | n % 16
 }
 
 // The number of rounds that is asked for.
@@ -63,19 +64,14 @@ fn main(rt: HostRuntime) -> io::Result<()> {
         return Ok(());
     };
     let bench = Bench { rt: &rt, rounds };
-    let transforms = list_transforms(rt.alloc())?;
-    let all: Vec<Table> = (0..=Table::MAX).collect(rt.alloc())?;
-    let sample: Vec<Table> = all
-        .iter()
-        .copied()
-        .filter(|f| f % 16 == f / 16 % 16)
-        .collect(rt.alloc())?;
-    bench.measure("plain definition", &sample, |f| {
-        Class::among(&transforms, f).map_or(0, |class| u64::from(class.representative))
+    bench.measure("plain definition", 4_095, |n| {
+        u64::from(Class::of(sample(n)).representative)
     })?;
-    bench.measure("classes", &all, |f| u64::from(classify(f).representative))?;
+    bench.measure("classes", Table::MAX, |f| {
+        u64::from(classify(f).representative)
+    })?;
     for (name, own) in KINDS {
-        bench.measure(name, &all, |f| plan_table(own, f).len() as u64)?;
+        bench.measure(name, Table::MAX, |f| plan_table(own, f).len() as u64)?;
     }
     Ok(())
 }

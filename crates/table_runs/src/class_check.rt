@@ -1,9 +1,7 @@
 // Classes: every table, and for some of them the least of all 768 images.
 use classifier::{Class, classify};
 use reference::classes as plain;
-use reference::classes::{Transform, list_transforms};
 use seen::seen_class;
-use std::alloc::{AllocError, Global};
 use tables::Table;
 
 // The class is searched among all images for every so many tables.
@@ -26,11 +24,11 @@ fn is_reached(f: Table, class: Class) -> bool {
 
 impl ClassTotals {
     // One table more. A class is counted at its representative.
-    fn add(&mut self, transforms: &[Transform], f: Table) {
+    fn add(&mut self, f: Table) {
         let class = classify(f);
         let is_sample = f % SAMPLE == 0;
         let right = is_reached(f, class)
-            && (!is_sample || plain::Class::among(transforms, f) == Some(seen_class(class)));
+            && (!is_sample || plain::Class::of(f) == seen_class(class));
         self.tables = self.tables.saturating_add(1);
         self.classes = self
             .classes
@@ -41,11 +39,10 @@ impl ClassTotals {
 }
 
 /// Runs all tables through the class search.
-pub fn run_classes(heap: Global) -> Result<ClassTotals, AllocError> {
-    let transforms = list_transforms(heap)?;
+pub fn run_classes() -> ClassTotals {
     let mut totals = ClassTotals::default();
     for f in 0..=Table::MAX {
-        totals.add(&transforms, f);
+        totals.add(f);
     }
-    Ok(totals)
+    totals
 }

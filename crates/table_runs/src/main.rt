@@ -28,10 +28,10 @@ fn print_plans(rt: &impl Print, own: Ownership, totals: PlanTotals) -> io::Resul
 }
 
 fn main(rt: HostRuntime) -> io::Result<()> {
-    print_classes(&rt, run_classes(rt.alloc())?)?;
+    print_classes(&rt, run_classes())?;
     for owned in Owned::all() {
         let own = asked(owned);
-        print_plans(&rt, own, run_plans(rt.alloc(), own)?)?;
+        print_plans(&rt, own, run_plans(own))?;
     }
     Ok(())
 }

@@ -1,14 +1,10 @@
 // Plans: the value of each at every setting, and the form of its lines.
 use classes::Ownership;
-use plans::plan_table;
-use reference::plans::{Line, Literal, Plan};
+use plans::{Plan, plan_table};
+use reference::plans::{Line, Literal, MOST_LINES};
 use reference::tables::{Variable, is_used, table_of};
-use seen::seen_plan;
-use std::alloc::{AllocError, Global};
+use seen::{seen_line, seen_literal};
 use tables::Table;
-
-// No plan is longer.
-const MOST: usize = 21;
 
 /// What came of the plans of all tables.
 #[derive(Clone, Copy, Default)]
@@ -46,30 +42,43 @@ fn is_fed(line: &Line) -> bool {
     places.all(|(v, literal)| literal == Literal::FALSE || is_used(line.table, v))
 }
 
-// Whether a plan is not too long, and each line has a table that is owned and what that uses.
-fn has_form(own: Ownership, plan: &Plan) -> bool {
-    let mut lines = plan.lines.iter();
-    plan.lines.len() <= MOST && lines.all(|line| is_fed(line) && is_owned(own, line.table))
+// Whether a line has a table that is owned, and what that uses.
+fn has_form(own: Ownership, line: &Line) -> bool {
+    is_fed(line) && is_owned(own, line.table)
+}
+
+// What a plan computes over the four signals; nothing where it is too long, a line has another form, or one reads a line that
+// does not stand before it.
+fn value_of(own: Ownership, plan: &Plan) -> Option<Table> {
+    let mut answers = [0; MOST_LINES];
+    for (n, line) in plan.lines().iter().enumerate() {
+        let line = seen_line(*line);
+        let answer = line.answer(answers.get(..n)?)?;
+        if !has_form(own, &line) {
+            return None;
+        }
+        *answers.get_mut(n)? = answer;
+    }
+    seen_literal(plan.result()).table(answers.get(..plan.len())?)
 }
 
 impl PlanTotals {
     // The plan of one table more.
-    fn add(&mut self, heap: Global, own: Ownership, f: Table) -> Result<(), AllocError> {
-        let plan = seen_plan(heap, &plan_table(own, f))?;
-        let right = plan.table(heap)? == Some(f) && has_form(own, &plan);
+    fn add(&mut self, own: Ownership, f: Table) {
+        let plan = plan_table(own, f);
         self.plans = self.plans.saturating_add(1);
-        self.lines = self.lines.saturating_add(plan.lines.len());
-        self.longest = self.longest.max(plan.lines.len());
+        self.lines = self.lines.saturating_add(plan.len());
+        self.longest = self.longest.max(plan.len());
+        let right = value_of(own, &plan) == Some(f);
         self.wrong = self.wrong.saturating_add(u32::from(!right));
-        Ok(())
     }
 }
 
 /// Runs all tables through the plan writer.
-pub fn run_plans(heap: Global, own: Ownership) -> Result<PlanTotals, AllocError> {
+pub fn run_plans(own: Ownership) -> PlanTotals {
     let mut totals = PlanTotals::default();
     for f in 0..=Table::MAX {
-        totals.add(heap, own, f)?;
+        totals.add(own, f);
     }
-    Ok(totals)
+    totals
 }

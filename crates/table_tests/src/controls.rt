@@ -3,7 +3,7 @@ use crate::compare::Count;
 use classifier::classify;
 use plans::plan_table;
 use reference::classes::{Atlas, Class, Owned};
-use reference::plans::{Plan, write_plan};
+use reference::plans::{Plan, write_plan_of};
 use seen::{asked, seen_class, seen_plan};
 use std::alloc::{AllocError, Global};
 
@@ -52,7 +52,7 @@ pub fn plan_control<F: FnOnce(&mut Plan)>(
     values.compare(&seen.table(heap)?, &Some(CONJUNCTION));
     plans.compare(
         &Some(seen),
-        &write_plan(heap, atlas, AND_ONLY, CONJUNCTION)?,
+        &write_plan_of(heap, atlas, AND_ONLY, CONJUNCTION)?,
     );
     Ok((plans, values))
 }

@@ -4,7 +4,7 @@ use classes::owned::{NamedClass, is_owned};
 use classifier::classify;
 use plans::plan_table;
 use reference::classes::{Atlas, Owned};
-use reference::plans::write_plan;
+use reference::plans::write_plan_of;
 use seen::{asked, seen_class, seen_plan};
 use std::alloc::{AllocError, Global};
 
@@ -42,7 +42,7 @@ impl ClassRun {
         self.distinct = self.distinct.saturating_add(u32::from(is_least));
         let number = atlas.number(f);
         for (class, due) in NAMED {
-            self.named.compare(&class.has(f), &(number == Some(due)));
+            self.named.compare(&class.has(f), &(number == due));
         }
     }
 }
@@ -65,7 +65,7 @@ impl PlanRun {
         self.lines = self.lines.saturating_add(seen.lines.len());
         self.longest = self.longest.max(seen.lines.len());
         self.values.compare(&seen.table(heap)?, &Some(f));
-        let due = write_plan(heap, atlas, own, f)?;
+        let due = write_plan_of(heap, atlas, own, f)?;
         self.plans.compare(&Some(seen), &due);
         Ok(())
     }
