@@ -24,8 +24,8 @@ node_back w k xs n e f =
           ap (λ (y : ℕ). y % 1024) (get_or_past (take w xs) k 0 (omega arith)) ∙ sym (eqb-true n.number 0 t)
     ]
 
-number_of_some : (ts : List ℕ) (t : ℕ) (o : Option ℕ) → position (λ x. eqb x t) ts ≡ o → is_some o ≡ true → get_or ts (unwrap_or o 0) 0 ≡ t
-number_of_some ts t (Some i) e h = eqb-true _ t (position-Some (λ x. eqb x t) ts i 0 e).1
+number_of_some : (ts : List ℕ) (t : ℕ) (o : Option ℕ) → position (λ x. eqb x t) ts ≡ o → is_some o ≡ true → get_or ts (unwrap_or o 4) 0x6666 ≡ t
+number_of_some ts t (Some i) e h = eqb-true _ t (position-Some (λ x. eqb x t) ts i 0x6666 e).1
 number_of_some ts t None e h = cc
 
 low : (n k : ℕ) → n < 1024 → (n % 1024 + 1024 * k) % 1024 ≡ n
@@ -54,7 +54,7 @@ near_back w ts some r e =
     let u = and_parts (near_node w 0 r.nodes.a) (near_node w 1 r.nodes.b) s.0 in
     let n = number_in ts r.table in
     row _ _ _ _ _ r
-    (ap (λ (y : ℕ). get_or ts (y / 1024) 0) (get_or-take w _ 0 0 some) ∙ ap (λ (y : ℕ). get_or ts y 0) (high r.nodes.a.number n) ∙ number_of_some ts r.table _ refl p.1)
+    (ap (λ (y : ℕ). get_or ts (y / 1024) 0x6666) (get_or-take w _ 0 0 some) ∙ ap (λ (y : ℕ). get_or ts y 0x6666) (high r.nodes.a.number n) ∙ number_of_some ts r.table _ refl p.1)
     (node_back w 0 _ r.nodes.a u.0 (low r.nodes.a.number n)) (node_back w 1 _ r.nodes.b u.1 (plain r.nodes.b.number))
     (node_back w 2 _ r.nodes.c s.1 (plain r.nodes.c.number)) (node_back w 3 _ r.nodes.d q.1 (plain r.nodes.d.number))
 

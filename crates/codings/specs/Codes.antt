@@ -19,12 +19,13 @@ and_xor_tables = 0x8888 ∷ 0x2222 ∷ 0x4444 ∷ 0xEEEE ∷ 0x6666 ∷ []
 abbrev pub majority_tables : List ℕ
 majority_tables = 0x8888 ∷ 0x2222 ∷ 0x4444 ∷ 0xEEEE ∷ 0xE8E8 ∷ 0xD4D4 ∷ 0xB2B2 ∷ 0x8E8E ∷ []
 
--- where a table stands in a list, or 0 where it does not
+-- where a table stands in a list, or 4 where it does not
 abbrev pub number_in : List ℕ → ℕ → ℕ
-number_in ts t = unwrap_or (position (λ x. x == t) ts) 0
+number_in ts t = unwrap_or (position (λ x. x == t) ts) 4
 
+-- the table of a number, or the exclusive-or where the list has none
 abbrev pub table_in : List ℕ → ℕ → ℕ
-table_in ts n = slice_index_or ts n 0
+table_in ts n = slice_index_or ts n 0x6666
 
 -- ---- rows
 

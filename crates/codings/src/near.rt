@@ -13,20 +13,20 @@ fn index_of(tables: &[Table], table: Table) -> Option<usize>
     tables.iter().position(|&t| t == table)
 }
 
-// The number of a table in a list, or 0 where it is not in it.
+// The number of a table in a list, or 4 where it is not in it.
 fn number_in(tables: &[Table], table: Table) -> u16
     requires { length tables.now ≤ 64 }
     ensures number { result ≡ number_in tables.now table }
     ensures bound { result < 64 }
 {
-    index_of(tables, table).unwrap_or(0) as u16
+    index_of(tables, table).unwrap_or(4) as u16
 }
 
-// The table of a number, or 0 where the list has none.
+// The table of a number, or the exclusive-or where the list has none.
 fn table_in(tables: &[Table], number: u16) -> Table
     ensures { result ≡ table_in tables.now number }
 {
-    tables.get(number as usize).copied().unwrap_or(0)
+    tables.get(number as usize).copied().unwrap_or(0x6666)
 }
 
 // The node in the low ten bits of word `k`, or node 0 where there is none.

@@ -36,9 +36,12 @@ module _ {C : Type 0} {W : ℕ} {c : Ghosts C W} where
 
   -- ---- rows
 
-  pub blocks_count : (s : Store C W c) → length (blocks W (words_of s) s.count) ≡ s.count
+  pub blocks_length : (s : Store C W c) (n : ℕ) → length (blocks W (words_of s) n) ≡ n
   unfolding blocks
-  blocks_count s = chunks_length W s.count (words_of s)
+  blocks_length s n = chunks_length W n (words_of s)
+
+  pub blocks_count : (s : Store C W c) → length (blocks W (words_of s) s.count) ≡ s.count
+  blocks_count s = blocks_length s s.count
 
   pub rows_count : (s : Store C W c) → length (rows_of s) ≡ s.count
   rows_count s = length-map (blocks W (words_of s) s.count) c.coder.decode ∙ blocks_count s
@@ -47,13 +50,12 @@ module _ {C : Type 0} {W : ℕ} {c : Ghosts C W} where
   pub rows_most : (s : Store C W c) → length (rows_of s) ≤ s.places
   rows_most s = let n = rows_count s in let w = s.within in omega arith
 
-  pub blocks_taken : (s : Store C W c) → take s.count (first_chunks W (length (words_of s) / W) (words_of s)) ≡ blocks W (words_of s) s.count
+  pub blocks_taken : (s : Store C W c) (n : ℕ) → n ≤ s.places → take n (first_chunks W (length (words_of s) / W) (words_of s)) ≡ blocks W (words_of s) n
   unfolding blocks
-  blocks_taken s =
+  blocks_taken s n h =
       let r = s.room in
-      let w = s.within in
       let v = s.words.ok.0 in
-      chunks_take W s.count (length (words_of s) / W) (words_of s) (few_blocks W (length (words_of s)) s.count (subst (λ (l : ℕ). s.count ≤ places_in W l) v (omega arith)))
+      chunks_take W n (length (words_of s) / W) (words_of s) (few_blocks W (length (words_of s)) n (subst (λ (l : ℕ). n ≤ places_in W l) v (omega arith)))
 
   -- ---- the search
 

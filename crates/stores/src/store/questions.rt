@@ -27,18 +27,19 @@ impl<C: Coding<W>, const W: usize> Store<C, W> {
         self.places
     }
 
-    // The words of each row.
-    fn blocks(&self) -> &[[u16; W]]
-        ensures { result.now ≡ blocks W (words_of self.now) self.now.count }
+    // The words at each of the first `count` places. The caller says how many, so that each answers for its own count.
+    fn blocks(&self, count: usize) -> &[[u16; W]]
+        requires { count ≤ self.now.places }
+        ensures { result.now ≡ blocks W (words_of self.now) count }
     {
-        &self.words.as_slice().as_chunks::<W>().0[..self.count]
+        &self.words.as_slice().as_chunks::<W>().0[..count]
     }
 
     /// Row i, if there is one.
     pub fn row(&self, i: usize) -> Option<Row>
         ensures { result ≡ slice_get (rows_of self.now) i }
     {
-        let block = self.blocks().get(i)?;
+        let block = self.blocks(self.count).get(i)?;
         Some(C::decode(block))
     }
 
@@ -48,7 +49,7 @@ impl<C: Coding<W>, const W: usize> Store<C, W> {
         ensures { MatchOption result (Absent (rows_of self.now) (length (rows_of self.now)) row) (λ i. First (rows_of self.now) row i) }
     {
         let key = C::encode(row);
-        self.blocks().iter().position(
+        self.blocks(self.count).iter().position(
             |block: &[u16; W]| -> bool
                 ensures { MatchBool result (block.now ≡ key) (block.now ≢ key) }
             { *block == key },
