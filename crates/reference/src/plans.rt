@@ -81,10 +81,11 @@ impl Line {
     }
 }
 
-// What a variable of the table stands for.
+// A variable of the table, with its own table, which many tables are compared with, and what it stands for.
 #[derive(Clone, Copy)]
 struct Input {
     variable: Variable,
+    table: u16,
     literal: Literal,
 }
 
@@ -199,7 +200,7 @@ impl Writer<'_> {
             return Some(Literal::FALSE);
         }
         let mut inputs = self.inputs.iter();
-        let input = inputs.find(|input| input.variable.table() == h)?;
+        let input = inputs.find(|input| input.table == h)?;
         Some(input.literal)
     }
 
@@ -213,6 +214,11 @@ impl Writer<'_> {
 
     // The rules for one line: the table itself, with constant false for what it does not depend on.
     fn one_line(&self, h: u16) -> Option<Choice> {
+        let owned = self.own.every || (self.own.majority && self.atlas.number(h) == 831);
+        // What it depends on is dear, and most tables are not owned.
+        if !owned {
+            return None;
+        }
         let literals = self.inputs.map(|input| {
             if is_used(h, input.variable) {
                 input.literal
@@ -220,8 +226,7 @@ impl Writer<'_> {
                 Literal::FALSE
             }
         });
-        let owned = self.own.every || (self.own.majority && self.atlas.number(h) == 831);
-        owned.then_some(Choice::OneLine(Line { table: h, literals }))
+        Some(Choice::OneLine(Line { table: h, literals }))
     }
 
     // The rules that take the table apart.
@@ -278,7 +283,11 @@ fn input_of(transform: Transform, variable: Variable) -> Input {
             inverted: signal.is_set(transform.mask),
         },
     );
-    Input { variable, literal }
+    Input {
+        variable,
+        table: variable.table(),
+        literal,
+    }
 }
 
 /// The plan of the table that has this class, by the first rule that fits it and then its parts.
