@@ -1,13 +1,14 @@
 -- Tables are known by their bits.
-use Rattle.std.proofs.Common.{◌≡◌, ℕ, zero, suc, ◌+◌, ◌-◌, ◌*◌, ◌/◌, ◌%◌, ◌^◌, ◌<◌, ◌≤◌, Bool, true, false, cond, not, eqb, refl, sym, ap, subst, ◌∙◌, arith, lit<, mod-eq_of_lt, bit_or, bit_and, ltb, pow-add, ⊎_elim}
+use Rattle.std.proofs.Common.{◌≡◌, ℕ, zero, suc, ◌+◌, ◌-◌, ◌*◌, ◌/◌, ◌%◌, ◌^◌, ◌<◌, ◌≤◌, Bool, true, false, cond, not, eqb, refl, sym, ap, subst, ◌∙◌, arith, lit<, mod-eq_of_lt, bit_or, bit_and, bit_xor, ltb, pow-add, ⊎_elim}
 use mathlib.Core.Bool.{beq}
 use mir.Val.{bool_byte}
 use Rattle.std.proofs.lemmas.Nat.{or_comm, or_shifted, pow_below}
 use Rattle.std.proofs.lemmas.Nat.Bits.{bit_at_cat_low, bit_at_cat_high, bit_at-lt, same_from_bits_below}
-use Rattle.std.proofs.lemmas.Bool.{cases_lt, eqb-true, ltb-true, agree_below, agree_below_at}
+use Rattle.std.specs.List.{list_any, range_with_len}
+use Rattle.std.proofs.lemmas.Bool.{cases_lt, eqb-true, eq-eqb, ltb-true, not-false, or_parts, or_from, agree_below, agree_below_at}
 use Rattle.reference.specs.declared.tables.Variable.{Variable}
 use Rattle.reference.specs.declared.tables.Variable.TheVariants.{V0, V1, V2, V3}
-use Rattle.reference.specs.Tables.{bit, number, table_below, table, put}
+use Rattle.reference.specs.Tables.{bit, number, table_below, table, put, fixed, depends_on}
 use Rattle.reference.specs.declared.classes.TheConstants.{ORDERS}
 use Rattle.reference.specs.Classes.{inverted, orders}
 
@@ -105,6 +106,86 @@ put_lt x V0 false h = ltb-true _ _ (passes (λ y. ltb (put y V0 false) 16) x ref
 put_lt x V1 false h = ltb-true _ _ (passes (λ y. ltb (put y V1 false) 16) x refl h)
 put_lt x V2 false h = ltb-true _ _ (passes (λ y. ltb (put y V2 false) 16) x refl h)
 put_lt x V3 false h = ltb-true _ _ (passes (λ y. ltb (put y V3 false) 16) x refl h)
+
+-- ---- whether a table depends on a variable
+
+-- a setting is the one with the variable's own value put, and with its bit inverted the one with the other value
+put_own : (x : ℕ) (v : Variable) → x < 16 → x % 16 ≡ put x v (bit x (number v))
+put_own x V0 h = eqb-true _ _ (passes (λ y. eqb (y % 16) (put y V0 (bit y 0))) x refl h)
+put_own x V1 h = eqb-true _ _ (passes (λ y. eqb (y % 16) (put y V1 (bit y 1))) x refl h)
+put_own x V2 h = eqb-true _ _ (passes (λ y. eqb (y % 16) (put y V2 (bit y 2))) x refl h)
+put_own x V3 h = eqb-true _ _ (passes (λ y. eqb (y % 16) (put y V3 (bit y 3))) x refl h)
+
+put_other : (x : ℕ) (v : Variable) → x < 16 → bit_xor x (2 ^ number v) % 16 ≡ put x v (not (bit x (number v)))
+put_other x V0 h = eqb-true _ _ (passes (λ y. eqb (bit_xor y (2 ^ 0) % 16) (put y V0 (not (bit y 0)))) x refl h)
+put_other x V1 h = eqb-true _ _ (passes (λ y. eqb (bit_xor y (2 ^ 1) % 16) (put y V1 (not (bit y 1)))) x refl h)
+put_other x V2 h = eqb-true _ _ (passes (λ y. eqb (bit_xor y (2 ^ 2) % 16) (put y V2 (not (bit y 2)))) x refl h)
+put_other x V3 h = eqb-true _ _ (passes (λ y. eqb (bit_xor y (2 ^ 3) % 16) (put y V3 (not (bit y 3)))) x refl h)
+
+-- f differs between x and x with the variable inverted
+abbrev pub differs : ℕ → Variable → ℕ → Bool
+differs f v x = not (beq (bit f (x % 16)) (bit f (bit_xor x (2 ^ number v) % 16)))
+
+-- that is, between x with the variable at false and at true
+differs_put : (f : ℕ) (v : Variable) (x : ℕ) → x < 16 → differs f v x ≡ not (beq (bit f (put x v false)) (bit f (put x v true)))
+differs_put f v x h = ap (λ k. not (beq (bit f k) (bit f (bit_xor x (2 ^ number v) % 16)))) (put_own x v h)
+    ∙ ap (λ k. not (beq (bit f (put x v (bit x (number v)))) (bit f k))) (put_other x v h)
+    ∙ in_turn (λ b. bit f (put x v b)) (bit x (number v))
+  where
+    swapped : (a b : Bool) → not (beq a b) ≡ not (beq b a)
+    swapped true true = refl
+    swapped true false = refl
+    swapped false true = refl
+    swapped false false = refl
+
+    in_turn : (g : Bool → Bool) (b : Bool) → not (beq (g b) (g (not b))) ≡ not (beq (g false) (g true))
+    in_turn g true = swapped (g true) (g false)
+    in_turn g false = refl
+
+same_from : (a b : Bool) → not (beq a b) ≡ false → a ≡ b
+same_from true true e = refl
+same_from true false e = cc
+same_from false true e = cc
+same_from false false e = refl
+
+from_same : (a b : Bool) → a ≡ b → not (beq a b) ≡ false
+from_same true true e = refl
+from_same true false e = cc
+from_same false true e = cc
+from_same false false e = refl
+
+-- where f differs nowhere, it does not depend on the variable, and the other way round
+unused : (f : ℕ) (v : Variable) → ((x : ℕ) → x < 16 → differs f v x ≡ false) → depends_on f v ≡ false
+unused f v none = ap not (eq-eqb (fixed f v false) (fixed f v true) (is_table _ _ (table_below_lt 16 _)
+    (λ x h. bit-table_below 16 _ x h ∙ same_from _ _ (sym (differs_put f v x h) ∙ none x h))))
+
+none_differs : (f : ℕ) (v : Variable) → depends_on f v ≡ false → (x : ℕ) → x < 16 → differs f v x ≡ false
+none_differs f v e x h =
+    let tables : fixed f v false ≡ fixed f v true = eqb-true _ _ (not-false _ e) in
+    let at : (b : Bool) → bit (fixed f v b) x ≡ bit f (put x v b) = λ b. bit-table_below 16 (λ y. bit f (put y v b)) x h in
+    differs_put f v x h ∙ from_same _ _ (sym (at false) ∙ ap (λ t. bit t x) tables ∙ at true)
+
+-- f depends on the variable if it differs at any of the sixteen settings
+pub used : (f : ℕ) (v : Variable) → list_any (differs f v) (range_with_len 0 16) ≡ depends_on f v
+used f v = same (list_any (differs f v) (range_with_len 0 16)) (depends_on f v)
+    (λ e. unused f v (λ x h. each (differs f v) 0 16 e x (omega arith) (omega arith)))
+    (λ e. none (differs f v) 0 16 (λ x h. none_differs f v e x (omega arith)))
+  where
+    same : (s t : Bool) → (s ≡ false → t ≡ false) → (t ≡ false → s ≡ false) → s ≡ t
+    same false t f g = sym (f refl)
+    same true false f g = g refl
+    same true true f g = refl
+
+    each : (p : ℕ → Bool) (a n : ℕ) → list_any p (range_with_len a n) ≡ false → (x : ℕ) → a ≤ x → x < a + n → p x ≡ false
+    each p a zero e x l h = absurd (omega arith)
+    each p a (suc n) e x l h = ⊎_elim
+        (λ over. each p (a + 1) n (or_parts _ _ e).1 x (omega arith) (omega arith))
+        (λ here. let q : a ≡ x = omega arith in subst (λ k. p k ≡ false) q (or_parts _ _ e).0)
+        (cases_lt a x)
+
+    none : (p : ℕ → Bool) (a n : ℕ) → ((x : ℕ) → x < a + n → p x ≡ false) → list_any p (range_with_len a n) ≡ false
+    none p a zero h = refl
+    none p a (suc n) h = or_from _ _ (h a (omega arith)) (none p (a + 1) n (λ x l. h x (omega arith)))
 
 -- ---- images
 

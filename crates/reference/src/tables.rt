@@ -94,5 +94,6 @@ pub fn fixed(f: u16, v: Variable, value: bool) -> u16
 pub fn is_used(f: u16, v: Variable) -> bool
     ensures { result ≡ depends_on f v }
 {
-    fixed(f, v, false) != fixed(f, v, true)
+    let bit = v.bit();
+    (0..16u16).any(|x| value_at(f, x) != value_at(f, x ^ bit))
 }
